@@ -2,6 +2,50 @@
 //! outside.
 #![tactic(auto)]
 
+mod book;
+mod device;
+mod disk_files;
+mod end;
+mod fields;
+mod files;
+mod gate;
+mod image;
+mod laws;
+mod layout;
+mod ledger;
+mod mem_files;
+mod mem_sink;
 mod memory;
+mod name;
+mod numbers;
+mod out_sink;
+mod place;
+mod sequence;
+mod sink;
+#[cfg(test)]
+mod tests;
+mod words;
 
+pub use book::{Book, Entry, History};
+pub use device::Device;
+pub use disk_files::DiskFiles;
+pub use end::End;
+pub use fields::{field_i64, field_u16, field_u32, field_u64};
+pub use files::{Fetch, Files};
+pub use gate::{Gate, NoGate, Point};
+pub use image::{Cell, Export, Image};
+pub use laws::{law_layout, law_place_of_a_part};
+pub use layout::{
+    FETCH_BYTES, FILE_BYTES, GATE, INSTRUCTION_BYTES, LOCAL_WORDS, PAGE_BYTES, PART_PAGES,
+    REGION_BYTES, STACK_PAGES, TABLE_WORDS,
+};
+pub use ledger::{Kind, MoveEnd, Moved, Row};
+pub use mem_files::{MemFile, MemFiles};
+pub use mem_sink::MemSink;
 pub use memory::OutOfMemory;
+pub use name::Name;
+pub use out_sink::OutSink;
+pub use place::Place;
+pub use sequence::Sequence;
+pub use sink::{Failed, Sink, write_all};
+pub use words::{Args, Notes, Words};

@@ -1,0 +1,7 @@
+pub mod End
+pub mod History
+pub mod Image
+pub mod Memory
+pub mod Outside
+pub mod Place
+pub mod Ring

@@ -1,0 +1,19 @@
+-- Words on the outside: what is told of it, and its counts of faults.
+use Rattle.std.specs.Prelude.{◌≡◌, ℕ, ◌+◌, ◌^◌, ◌<◌, ◌⊎◌, ◌++◌, ◌∷◌, [], List, Option, Result, Ok, Err, IfSome}
+use Rattle.ad_base.specs.declared.files.Fetch.{Fetch}
+use Rattle.ad_base.specs.declared.files.Fetch.TheVariants.{Failed, TooLarge, OutOfMemory}
+
+-- a count of faults rose, or stands at the end of its type
+abbrev pub Rose : ℕ → ℕ → Type 0
+Rose old new = (old < new) ⊎ (new + 1 ≡ 2 ^ 64)
+
+-- where bytes are told, they are these
+abbrev pub Tells : Option (List ℕ) → List ℕ → Type 0
+Tells told bytes = IfSome told (λ b. b ≡ bytes)
+
+-- the names asked for, once a fetch by one more name gave its answer: want of memory asks for none
+abbrev pub asked_after : {T : Type 0} → Result T Fetch → List (List ℕ) → List ℕ → List (List ℕ)
+asked_after (Ok x) names name = names ++ name ∷ []
+asked_after (Err Failed) names name = names ++ name ∷ []
+asked_after (Err TooLarge) names name = names ++ name ∷ []
+asked_after (Err OutOfMemory) names name = names

@@ -1,0 +1,33 @@
+//! Numbers of the address layout. A region begins at each multiple of its size; region 0 is never
+//! mapped, and region 1 is kept for the gate, the services and the wrappers.
+
+/// Bytes of a page.
+pub const PAGE_BYTES: u64 = 4096;
+
+/// Bytes of a region, which is 64 pages.
+pub const REGION_BYTES: u64 = 0x40000;
+
+/// The address that a call returns to: the first one of region 1.
+pub const GATE: u64 = 0x40000;
+
+/// Bytes that one fetch reads. The address of a fetch, and so an entry and a target, is a multiple of
+/// them.
+pub const FETCH_BYTES: u64 = 4;
+
+/// Bytes of an instruction.
+pub const INSTRUCTION_BYTES: u64 = 4;
+
+/// Pages that a part of a module has at most.
+pub const PART_PAGES: u16 = 62;
+
+/// Pages of a stack.
+pub const STACK_PAGES: u16 = 4;
+
+/// Words of a local area, and so of the page that holds them, at most.
+pub const LOCAL_WORDS: u64 = 512;
+
+/// Words of a fixed table at most.
+pub const TABLE_WORDS: u64 = 256;
+
+/// Bytes that a file which is read by name has at most.
+pub const FILE_BYTES: u64 = 1_048_576;

@@ -1,0 +1,38 @@
+//! A writer of the system as a sink.
+
+ghost use Rattle.std.specs.Prelude.{◌≡◌, None};
+
+use crate::sink::{Failed, Sink};
+use std::io;
+
+/// A writer, such as standard output. What it takes is told to nobody.
+#[derive(Debug, Drop)]
+pub struct OutSink<W> {
+    writer: W,
+    faults: u64,
+}
+
+impl<W: io::Write> OutSink<W> {
+    /// A sink that writes here, with no fault so far.
+    pub fn new(writer: W) -> OutSink<W>
+        ensures { ⟦<OutSink<W> as Sink>⟧.faults result ≡ 0 }
+    {
+        OutSink { writer, faults: 0 }
+    }
+}
+
+impl<W: io::Write> Sink for OutSink<W> {
+    ghost taken = { λ _. None };
+
+    ghost faults = { λ s. s.faults };
+
+    fn write(&mut self, piece: &[u8]) -> Result<usize, Failed> {
+        match self.writer.write(piece) {
+            Ok(count) if count > 0 => Ok(count),
+            _ => {
+                self.faults = self.faults.saturating_add(1);
+                Err(Failed)
+            }
+        }
+    }
+}

@@ -1,0 +1,5 @@
+//! What no clause says: fixed bytes, printed text, the trusted edge, and each call once with memory.
+
+mod lists;
+mod outside;
+mod text;

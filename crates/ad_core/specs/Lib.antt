@@ -1,0 +1,6 @@
+pub mod Segments
+pub mod Plain
+pub mod Code
+pub mod Image
+pub mod Turn
+pub mod Examples

@@ -1,0 +1,13 @@
+pub mod Causes
+pub mod FormImage
+pub mod Names
+pub mod ObjectAppends
+pub mod ObjectFile
+pub mod Reach
+pub mod ScriptArguments
+pub mod ScriptCall
+pub mod ScriptLoad
+pub mod ScriptOne
+pub mod ScriptSplit
+pub mod Turns
+pub mod Zeros

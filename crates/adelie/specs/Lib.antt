@@ -1,0 +1,10 @@
+pub mod Command
+pub mod FormImage
+pub mod Object
+pub mod Reach
+pub mod Report
+pub mod Script
+pub mod Steps
+pub mod Trouble
+pub mod Turn
+pub mod Words
