@@ -1,8 +1,12 @@
--- Which images are whole.
-use Rattle.std.specs.Prelude.{◌≡◌, ℕ, ◌+◌, ◌*◌, ◌≤◌, length}
+-- Which images are whole, and the zero bytes that fill up their pages.
+use Rattle.std.specs.Prelude.{◌≡◌, ℕ, ◌+◌, ◌*◌, ◌≤◌, List, length, replicate}
 use Rattle.ad_base.specs.declared.layout.TheConstants.{PAGE_BYTES, PART_PAGES, LOCAL_WORDS, TABLE_WORDS}
 use Rattle.ad_base.specs.declared.image.Image.{Image}
 use Rattle.ad_base.specs.Place.{IsModulePlace}
+
+-- so many zero bytes
+unfoldable pub zeros : ℕ → List ℕ
+zeros n = replicate n 0
 
 -- text, the stub page, read-only data, the fixed table, the local area, writable data
 abbrev pub movable_pages : Image → ℕ

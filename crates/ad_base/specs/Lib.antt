@@ -1,4 +1,5 @@
 pub mod End
+pub mod ExportName
 pub mod History
 pub mod Image
 pub mod Memory

@@ -1,18 +1,27 @@
 //! Laws of the address layout. Each function makes no call: its contract is the law.
 
-ghost use Rattle.std.specs.Prelude.{◌≡◌, ◌<◌, ◌≤◌, ◌+◌, ◌*◌};
+ghost use Rattle.std.specs.Prelude.{◌≡◌, ◌<◌, ◌≤◌, ◌+◌, ◌*◌, ◌^◌};
 ghost use Rattle.ad_base.specs.declared.place.Place.{Place};
-ghost use Rattle.ad_base.specs.Place.{base_of, IsPlace};
+ghost use Rattle.ad_base.specs.Place.{base_of, packed, IsPlace};
 
 use crate::layout::{
-    FETCH_BYTES, FILE_BYTES, GATE, INSTRUCTION_BYTES, LOCAL_WORDS, PAGE_BYTES, PART_PAGES,
-    REGION_BYTES, STACK_PAGES, TABLE_WORDS,
+    FETCH_BYTES, FILE_BYTES, FRAMES, GATE, INSTRUCTION_BYTES, LOCAL_WORDS, MAPPINGS, MODULE_REGION,
+    MODULE_REGIONS, PAGE_BYTES, PART_PAGES, REGION_BYTES, REGION_PAGES, REGIONS, STACK_PAGES,
+    STACK_REGION, STACK_REGIONS, TABLE_WORDS,
 };
 
 /// The numbers of the address layout.
 pub fn law_layout()
     ensures page { PAGE_BYTES ≡ 4096 }
-    ensures region { REGION_BYTES ≡ 64 * PAGE_BYTES }
+    ensures region { REGION_BYTES ≡ REGION_PAGES * PAGE_BYTES }
+    ensures region_pages { REGION_PAGES ≡ 64 }
+    ensures regions { REGIONS ≡ 65536 }
+    ensures module_region { MODULE_REGION ≡ 2 }
+    ensures module_regions { MODULE_REGION + MODULE_REGIONS ≡ STACK_REGION }
+    ensures stack_region { STACK_REGION ≡ 32768 }
+    ensures stack_regions { STACK_REGION + STACK_REGIONS ≡ REGIONS }
+    ensures mappings { MAPPINGS ≡ 4095 }
+    ensures frames { FRAMES ≡ 256 }
     ensures gate { GATE ≡ REGION_BYTES }
     ensures fetch { FETCH_BYTES ≡ 4 }
     ensures instruction { INSTRUCTION_BYTES ≡ 4 }
@@ -28,4 +37,11 @@ pub fn law_place_of_a_part()
     ensures before { (p : Place) → IsPlace p → p.region * REGION_BYTES + PAGE_BYTES ≤ base_of p }
     ensures behind { (p : Place) → IsPlace p → base_of p + p.pages * PAGE_BYTES + PAGE_BYTES ≤ (p.region + 1) * REGION_BYTES }
     ensures above_region_1 { (p : Place) → IsPlace p → 2 * REGION_BYTES < base_of p }
+{}
+
+/// Two places never have one word, and bits 56 to 63 of a place's word are zero.
+pub fn law_packing()
+    ensures one { (p q : Place) → IsPlace p → IsPlace q → packed p ≡ packed q → p ≡ q }
+    ensures fits { (p : Place) → IsPlace p → packed p < 2 ^ 56 }
+    ensures word { packed (record { region = 13105; start = 43; pages = 4; mapping = 3; frame = 0 }) ≡ 0x30102b3331 }
 {}

@@ -17,6 +17,30 @@ pub const FETCH_BYTES: u64 = 4;
 /// Bytes of an instruction.
 pub const INSTRUCTION_BYTES: u64 = 4;
 
+/// Pages of a region. The first and the last of them are never mapped.
+pub const REGION_PAGES: u64 = 64;
+
+/// All regions: a place's region is below this number.
+pub const REGIONS: u64 = 65_536;
+
+/// The first region for modules.
+pub const MODULE_REGION: u64 = 2;
+
+/// Regions for modules, from the first one on.
+pub const MODULE_REGIONS: u64 = 32_766;
+
+/// The first region for stacks.
+pub const STACK_REGION: u64 = 32_768;
+
+/// Regions for stacks, from the first one on.
+pub const STACK_REGIONS: u64 = 32_768;
+
+/// Mappings of a run at most. They are numbered from 1.
+pub const MAPPINGS: u64 = 4_095;
+
+/// Table frames: a place's frame is below this number.
+pub const FRAMES: u64 = 256;
+
 /// Pages that a part of a module has at most.
 pub const PART_PAGES: u16 = 62;
 

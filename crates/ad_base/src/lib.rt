@@ -6,6 +6,7 @@ mod book;
 mod device;
 mod disk_files;
 mod end;
+mod export_name;
 mod fields;
 mod files;
 mod gate;
@@ -30,14 +31,16 @@ pub use book::{Book, Entry, History};
 pub use device::Device;
 pub use disk_files::DiskFiles;
 pub use end::End;
+pub use export_name::{is_export_name, is_name_byte};
 pub use fields::{field_i64, field_u16, field_u32, field_u64};
 pub use files::{Fetch, Files};
 pub use gate::{Gate, NoGate, Point};
 pub use image::{Cell, Export, Image};
-pub use laws::{law_layout, law_place_of_a_part};
+pub use laws::{law_layout, law_packing, law_place_of_a_part};
 pub use layout::{
-    FETCH_BYTES, FILE_BYTES, GATE, INSTRUCTION_BYTES, LOCAL_WORDS, PAGE_BYTES, PART_PAGES,
-    REGION_BYTES, STACK_PAGES, TABLE_WORDS,
+    FETCH_BYTES, FILE_BYTES, FRAMES, GATE, INSTRUCTION_BYTES, LOCAL_WORDS, MAPPINGS, MODULE_REGION,
+    MODULE_REGIONS, PAGE_BYTES, PART_PAGES, REGION_BYTES, REGION_PAGES, REGIONS, STACK_PAGES,
+    STACK_REGION, STACK_REGIONS, TABLE_WORDS,
 };
 pub use ledger::{Kind, MoveEnd, Moved, Row};
 pub use mem_files::{MemFile, MemFiles};

@@ -2,4 +2,5 @@
 
 mod lists;
 mod outside;
+mod places;
 mod text;

@@ -1,5 +1,5 @@
 -- The segments that a call of an image reaches, under the places of its movable part and of its stack.
-use Rattle.std.specs.Prelude.{ℕ, ◌+◌, ◌-◌, ◌*◌, ◌%◌, ◌^◌, true, false, List, [], ◌∷◌, ◌++◌, length, take, drop, map, replicate}
+use Rattle.std.specs.Prelude.{ℕ, ◌+◌, ◌-◌, ◌*◌, ◌%◌, ◌^◌, true, false, List, [], ◌∷◌, ◌++◌, length, take, drop, map}
 use Rattle.std.specs.List.{flat_map}
 use Rattle.byteorder.specs.Endian.{little_bytes}
 use Rattle.ad_base.specs.declared.layout.TheConstants.{PAGE_BYTES, STACK_PAGES}
@@ -7,12 +7,9 @@ use Rattle.ad_base.specs.declared.image.Cell.{Cell}
 use Rattle.ad_base.specs.declared.image.Cell.TheVariants.{Off, Num}
 use Rattle.ad_base.specs.declared.image.Image.{Image}
 use Rattle.ad_base.specs.declared.place.Place.{Place}
+use Rattle.ad_base.specs.Image.{zeros}
 use Rattle.ad_base.specs.Place.{base_of}
 use Rattle.ad_core.specs.Segments.{Rights, Segment}
-
--- so many zero bytes
-unfoldable pub zeros : ℕ → List ℕ
-zeros n = replicate n 0
 
 -- words as the bytes of a page: the lowest byte first, and zeros behind the last
 abbrev pub page_of_words : List ℕ → List ℕ

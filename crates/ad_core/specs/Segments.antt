@@ -1,5 +1,5 @@
 -- The memory of the plain machine: a list of segments, of which the first that holds an address counts.
-use Rattle.std.specs.Prelude.{ℕ, ◌+◌, ◌-◌, ◌/◌, Bool, ◌==◌, ◌&&◌, nat_lt, nat_le, if◌then◌else◌, List, [], ◌∷◌, length, drop, find, fold, Option, Some, None}
+use Rattle.std.specs.Prelude.{ℕ, ◌+◌, ◌-◌, ◌/◌, Bool, ◌==◌, ◌&&◌, nat_lt, nat_le, if◌then◌else◌, List, [], ◌∷◌, length, drop, map, find, fold, Option, Some, None}
 use Rattle.byteorder.specs.Endian.{little_number}
 use Rattle.ad_base.specs.declared.layout.TheConstants.{FETCH_BYTES, GATE, REGION_BYTES}
 use Rattle.ad_core.specs.declared.bus.Fetched.{Fetched}
@@ -16,6 +16,10 @@ pub record Segment : Type 0 where
   pub base : ℕ
   pub bytes : List ℕ
   pub rights : Rights
+
+-- how many bytes each segment has
+abbrev pub sizes : List Segment → List ℕ
+sizes segments = map (λ s. length s.bytes) segments
 
 abbrev pub holds : ℕ → Segment → Bool
 holds at s = nat_le s.base at && nat_lt at (s.base + length s.bytes)

@@ -50,3 +50,14 @@ pub record IsOpening (image : Image) (book : Book) : Type 0 where
   pub fixed : book.fixed ≡ image.fixed_data
   pub device : book.device ≡ []
   pub history : book.history.entries ≡ []
+
+-- the book after is reached from the book before by turns, one for each of these entries, in order
+abbrev pub AreTurns : Image → ℕ → Book → List Entry → Book → Type 0
+AreTurns image fuel before [] after = before ≡ after
+AreTurns image fuel before (e ∷ es) after = (next : Book) × IsTurn image fuel before e next × AreTurns image fuel next es after
+
+-- a book that turns reach from the opening book of its image
+pub record IsLawful (image : Image) (fuel : ℕ) (book : Book) : Type 0 where
+  pub opening : Book
+  pub opens : IsOpening image opening
+  pub turns : AreTurns image fuel opening book.history.entries book

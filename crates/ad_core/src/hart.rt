@@ -81,6 +81,10 @@ impl Hart {
             ≡ Ok (next_of result self.new m) }
     {
         match instr {
+            Instr::Auipc { rd, imm } => {
+                let value = self.pc.wrapping_add(imm.cast_unsigned());
+                self.write(rd, value)
+            }
             Instr::OpImm { op, rd, rs1, imm } => {
                 let value = operation(op, self.get(rs1), imm.cast_unsigned());
                 self.write(rd, value)

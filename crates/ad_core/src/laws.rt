@@ -1,7 +1,8 @@
 //! Worked examples of the plain machine. Each function makes no call: its contract is the example.
 
-ghost use Rattle.std.specs.Prelude.{◌≡◌, [], ◌∷◌};
-ghost use Rattle.ad_core.specs.Plain.{plain_call};
+ghost use Rattle.std.specs.Prelude.{◌≡◌, ℕ, List, [], ◌∷◌};
+ghost use Rattle.ad_core.specs.Segments.{sizes};
+ghost use Rattle.ad_core.specs.Plain.{Memory, plain_call};
 ghost use Rattle.ad_core.specs.Examples.{code_at, constants_at};
 ghost use Rattle.ad_core.specs.Turn.{bytes_at, reached};
 ghost use Rattle.ad_base.specs.declared.book.Book.{Book};
@@ -48,10 +49,28 @@ pub fn law_worked_calls()
     ensures link_to_the_source { (plain_call 100 0x100000 (0x40000 ∷ []) 0
         (code_at 0x100000 (0x00050567 ∷ []))).end
         ≡ End.Returned 0x100004 }
+    ensures own_address { (plain_call 100 0x100000 [] 0
+        (code_at 0x100000 (0x00000517 ∷ 0x00008067 ∷ []))).end
+        ≡ End.Returned 0x100000 }
+    ensures own_address_behind { (plain_call 100 0x100000 [] 0
+        (code_at 0x100000 (0x00150513 ∷ 0x00000517 ∷ 0x00008067 ∷ []))).end
+        ≡ End.Returned 0x100004 }
+    ensures a_page_on { (plain_call 100 0x100000 [] 0
+        (code_at 0x100000 (0x00001517 ∷ 0x00008067 ∷ []))).end
+        ≡ End.Returned 0x101000 }
+    ensures a_page_back { (plain_call 100 0x100000 [] 0
+        (code_at 0x100000 (0xfffff517 ∷ 0x00008067 ∷ []))).end
+        ≡ End.Returned 0xff000 }
 {}
 
 /// Where the data of the parts stands among the segments that a call reaches.
 pub fn law_data_segments()
     ensures fixed { (i : Image) (book : Book) (under stack : Place) → bytes_at 4 (reached i book under stack) ≡ book.fixed }
     ensures writable { (i : Image) (book : Book) (under stack : Place) → bytes_at 9 (reached i book under stack) ≡ book.writable }
+{}
+
+/// A call leaves each segment as long as it was.
+pub fn law_sizes_stay()
+    ensures { (fuel entry sp : ℕ) (args : List ℕ) (m : Memory)
+        → sizes (plain_call fuel entry args sp m).memory.segments ≡ sizes m.segments }
 {}

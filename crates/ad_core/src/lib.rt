@@ -7,7 +7,7 @@ mod laws;
 mod run;
 
 pub use bus::{Bus, Fetched};
-pub use laws::{law_data_segments, law_worked_calls};
+pub use laws::{law_data_segments, law_sizes_stay, law_worked_calls};
 pub use run::call;
 
 #[cfg(test)]

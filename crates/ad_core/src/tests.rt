@@ -57,6 +57,7 @@ impl Bus for CodeBus {
 fn calls_end_as_the_standard_has_it(rt: HostRuntime) {
     const ADD: u32 = 0x00b50533;
     const INCREMENT: u32 = 0x00150513;
+    const OWN_ADDRESS: u32 = 0x00000517;
     const JUMP_TO_A0: u32 = 0x00050067;
     const RETURN: u32 = 0x00008067;
     for (words, a0, a1, entry, fuel, want) in [
@@ -76,6 +77,14 @@ fn calls_end_as_the_standard_has_it(rt: HostRuntime) {
             BASE,
             4,
             End::Returned(7),
+        ),
+        (
+            [OWN_ADDRESS, RETURN, 0, 0],
+            6,
+            0,
+            BASE,
+            100,
+            End::Returned(BASE),
         ),
         ([0; 4], 0, 0, BASE, 100, End::Illegal),
         ([JUMP_TO_A0, 0, 0, 0], 6, 0, BASE, 100, End::Misaligned),

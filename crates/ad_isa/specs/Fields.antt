@@ -1,5 +1,5 @@
 -- The fields of an instruction word (unprivileged ISA, "Base Instruction Formats").
-use Rattle.std.specs.Prelude.{ℕ, ◌+◌, ◌-◌, ◌/◌, ◌%◌, ◌^◌, nat_lt, if◌then◌else◌, ℤ, pos, ◌-ℤ◌}
+use Rattle.std.specs.Prelude.{ℕ, ◌+◌, ◌-◌, ◌*◌, ◌/◌, ◌%◌, ◌^◌, nat_lt, if◌then◌else◌, ℤ, pos, ◌-ℤ◌}
 
 -- the bits of a word from `high` down to `low`, as a number
 abbrev pub bits : ℕ → ℕ → ℕ → ℕ
@@ -30,3 +30,7 @@ signed_bits count n = if nat_lt n (2 ^ (count - 1)) then pos n else pos n -ℤ p
 -- the immediate of the I format
 unfoldable pub i_immediate : ℕ → ℤ
 i_immediate word = signed_bits 12 (bits word 31 20)
+
+-- the immediate of the U format: its twelve low bits are zeros
+unfoldable pub u_immediate : ℕ → ℤ
+u_immediate word = signed_bits 32 (bits word 31 12 * 2 ^ 12)

@@ -6,7 +6,7 @@ use Rattle.ad_base.specs.declared.layout.TheConstants.{INSTRUCTION_BYTES}
 use Rattle.ad_isa.specs.declared.instr.Alu.{Alu}
 use Rattle.ad_isa.specs.declared.instr.Alu.TheVariants.{Add}
 use Rattle.ad_isa.specs.declared.instr.Instr.{Instr}
-use Rattle.ad_isa.specs.declared.instr.Instr.TheVariants.{OpImm, Op, Jalr}
+use Rattle.ad_isa.specs.declared.instr.Instr.TheVariants.{Auipc, OpImm, Op, Jalr}
 use Rattle.ad_isa.specs.Domain.{Domain, ◌>>=◌}
 
 -- what an instruction comes to
@@ -31,6 +31,9 @@ module _ {V R : Type 0} (d : Domain V R) where
 
   -- the effect of an instruction at pc, where the registers hold xs
   unfoldable pub effect : List V → V → Instr → Result (Effect V) R
+  effect xs pc (Auipc rd imm) = do
+    value ← d.sum pc (d.number (cast_unsigned w64 imm))
+    Ok (Writes rd value)
   effect xs pc (OpImm op rd rs1 imm) = do
     value ← operation op (register xs rs1) (d.number (cast_unsigned w64 imm))
     Ok (Writes rd value)

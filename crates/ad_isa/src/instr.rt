@@ -9,6 +9,9 @@ pub enum Alu {
 /// An instruction. Registers are numbered from 0 to 31, and an immediate has its sign.
 #[derive(Clone, Copy, Debug, PartialEq, Eq)]
 pub enum Instr {
+    /// The sum of the instruction's own address and an upper immediate, whose twelve low bits are
+    /// zeros: AUIPC.
+    Auipc { rd: u8, imm: i64 },
     /// An operation on a register and an immediate: ADDI.
     OpImm { op: Alu, rd: u8, rs1: u8, imm: i64 },
     /// An operation on two registers: ADD.

@@ -18,6 +18,10 @@ pub fn law_worked_words()
     ensures return_jump { decoded 0x00008067 ≡ Some (Instr.Jalr 0 1 (pos 0)) }
     ensures add_immediate { decoded 0x00150513 ≡ Some (Instr.OpImm Alu.Add 10 10 (pos 1)) }
     ensures negative { decoded 0xff828293 ≡ Some (Instr.OpImm Alu.Add 5 5 (negsuc 7)) }
+    ensures own_address { decoded 0x00000517 ≡ Some (Instr.Auipc 10 (pos 0)) }
+    ensures far_address { decoded 0x00004297 ≡ Some (Instr.Auipc 5 (pos 0x4000)) }
+    ensures address_before { decoded 0xfffff517 ≡ Some (Instr.Auipc 10 (negsuc 4095)) }
+    ensures load_upper_immediate { decoded 0xffffc2b7 ≡ None }
     ensures subtract { decoded 0x40b50533 ≡ None }
     ensures zero { decoded 0 ≡ None }
 {}

@@ -1,5 +1,5 @@
-//! Instructions (the unprivileged ISA), so far ADDI, ADD and JALR: which word is which, and what each does, over any
-//! domain of values.
+//! Instructions (the unprivileged ISA), so far AUIPC, ADDI, ADD and JALR: which word is which, and what each does,
+//! over any domain of values.
 #![tactic(auto)]
 
 mod instr;

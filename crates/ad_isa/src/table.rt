@@ -1,10 +1,13 @@
 //! Which instruction a word is.
 
 ghost use Rattle.std.specs.Prelude.{◌≡◌, ◌<◌, IfSome};
-ghost use Rattle.ad_isa.specs.Fields.{opcode, funct3, funct7, rd, rs1, rs2, i_immediate};
+ghost use Rattle.ad_isa.specs.Fields.{opcode, funct3, funct7, rd, rs1, rs2, i_immediate, u_immediate};
 ghost use Rattle.ad_isa.specs.Table.{decoded, HasRegisters};
 
 use crate::instr::{Alu, Instr};
+
+/// The opcode of AUIPC.
+const AUIPC: u32 = 0x17;
 
 /// The opcode of operations on a register and an immediate.
 const OP_IMM: u32 = 0x13;
@@ -22,6 +25,10 @@ pub fn decode(word: u32) -> Option<Instr>
     ensures registers { IfSome result HasRegisters }
 {
     match (opcode(word), funct3(word)) {
+        (AUIPC, _) => Some(Instr::Auipc {
+            rd: rd(word),
+            imm: u_immediate(word),
+        }),
         (OP_IMM, 0) => Some(Instr::OpImm {
             op: Alu::Add,
             rd: rd(word),
@@ -94,4 +101,16 @@ fn i_immediate(word: u32) -> i64
 {
     let low = i64::from(word >> 20);
     if low < 0x800 { low } else { low - 0x1000 }
+}
+
+#[tactic(auto, unfolding(crate::specs::Fields::u_immediate))]
+fn u_immediate(word: u32) -> i64
+    ensures { result ≡ u_immediate word }
+{
+    let high = i64::from(word >> 12) * 0x1000;
+    if high < 0x8000_0000 {
+        high
+    } else {
+        high - 0x1_0000_0000
+    }
 }

@@ -1,13 +1,9 @@
 pub mod Causes
-pub mod FormImage
+pub mod Ledgers
+pub mod LineLaws
+pub mod Lists
 pub mod Names
-pub mod ObjectAppends
-pub mod ObjectFile
+pub mod Outcomes
 pub mod Reach
-pub mod ScriptArguments
-pub mod ScriptCall
-pub mod ScriptLoad
-pub mod ScriptOne
-pub mod ScriptSplit
 pub mod Turns
 pub mod Zeros

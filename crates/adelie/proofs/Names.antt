@@ -1,13 +1,25 @@
 -- The names that are asked for, one step after the other, and what a fault of the second step is.
-use Rattle.std.proofs.Common.{◌≡◌, ℕ, ◌≤◌, ◌<◌, List, [], ◌∷◌, ◌++◌, length, Option, None, Some, IfSome, refl, sym, ap, ◌∙◌, subst, inl, inr, ⊎_elim, append_assoc, arith}
+use Rattle.std.proofs.Common.{◌≡◌, ℕ, ◌≤◌, ◌<◌, List, [], ◌∷◌, ◌++◌, length, Option, None, Some, IfSome, Result, Ok, Err, OnOk, IfErr, refl, sym, ap, ◌∙◌, subst, inl, inr, ⊎_elim, append_assoc, arith}
 use Rattle.ad_base.specs.declared.layout.TheConstants.{FILE_BYTES}
 use Rattle.ad_base.specs.Outside.{Rose}
-use Rattle.adelie.specs.declared.script.Script.{Script}
+use Rattle.ad_script.specs.declared.script.Script.{Script}
+use Rattle.ad_form.specs.declared.read.Module.{Module}
 use Rattle.adelie.specs.declared.trouble.Trouble.{Trouble}
-use Rattle.adelie.specs.declared.trouble.Trouble.TheVariants.{Usage, BadScript, Form, Read, TooLarge, Write, Memory}
+use Rattle.adelie.specs.declared.trouble.Trouble.TheVariants.{Usage, BadScript, Form, NoExport, Read, TooLarge, Write, Memory}
 use Rattle.adelie.specs.Words.{IsSeq}
-use Rattle.adelie.specs.Command.{Told, MayHold, HasShort, ReadsScript, Asks, AsksNames, EndsAt}
-use Rattle.adelie.specs.Steps.{IsScriptFault, IsModuleFault, AsksOnce, IsRefusal}
+use Rattle.adelie.specs.Command.{Told, MayHold, HasShort, ReadsScript, ReadsModule, Asks, AsksNames, EndsAt}
+use Rattle.ad_form.specs.Object.{IsModule}
+use Rattle.adelie.specs.Steps.{IsScriptFault, IsModuleFault, IsRunFault, AsksOnce, IsRefusal}
+
+-- what holds in any case holds where all went well
+pub on_ok : {T E : Type 0} (r : Result T E) (P : Type 0) → P → OnOk r P
+on_ok (Ok x) P p = p
+on_ok (Err e) P p = tt
+
+-- what follows from an error's cause holds where there is an error
+pub if_err : {T E : Type 0} (r : Result T E) (P Q : E → Type 0) → ((e : E) → P e → Q e) → IfErr r P → IfErr r Q
+if_err (Ok x) P Q f p = tt
+if_err (Err e) P Q f p = f e p
 
 -- the names of two steps, one behind the other
 pub asks_join : (old mid new : Option (List (List ℕ))) (xs ys : List (List ℕ)) → Asks old mid xs → Asks mid new ys → Asks old new (xs ++ ys)
@@ -30,6 +42,7 @@ module _ (told later : Told) (same : (name : List ℕ) → later name ≡ told n
   names_of_fault rose Usage fault once = absurd fault
   names_of_fault rose BadScript fault once = absurd fault
   names_of_fault rose Write fault once = absurd fault
+  names_of_fault rose (NoExport line) fault once = absurd fault
   names_of_fault rose (Form n) fault once = names_of_both (Some (Form n)) (operand, ap (λ m. operand ∷ m ∷ []) (sym fault.0)) once
   names_of_fault rose Memory fault once = ⊎_elim (λ a. (operand ∷ [], asks_join old mid new (operand ∷ []) [] first a, seq, tt)) (names_of_both (Some Memory) tt) once
   names_of_fault rose (Read n) fault once = names_of_both (Some (Read n)) (operand ∷ [], ap (λ m. operand ∷ m ∷ []) (sym fault.0)) once
@@ -40,6 +53,7 @@ module _ (told later : Told) (same : (name : List ℕ) → later name ≡ told n
   refusal_of_fault later_rose rose up Usage fault = absurd fault
   refusal_of_fault later_rose rose up BadScript fault = absurd fault
   refusal_of_fault later_rose rose up Write fault = absurd fault
+  refusal_of_fault later_rose rose up (NoExport line) fault = absurd fault
   refusal_of_fault later_rose rose up Memory fault = (operand, seq)
   refusal_of_fault later_rose rose up (Form n) fault =
       let file = fault.1.0 in
@@ -49,11 +63,43 @@ module _ (told later : Told) (same : (name : List ℕ) → later name ≡ told n
   refusal_of_fault later_rose rose up (TooLarge n) fault =
       (inr (s, reads, fault.0), subst (λ f. IfSome f (λ b. FILE_BYTES < length b)) (same s.file ∙ ap told (sym fault.0)) fault.1)
 
+  -- the module that was read
+  module _ (m : Module) (file : (f : List ℕ) × HasShort (MayHold later) s.file f × IsModule f m) where
+    pub reads_module : ReadsModule (MayHold told) words s m
+    reads_module = record {
+      script = reads;
+      file = file.0;
+      read = (subst (λ f. IfSome f (λ b. b ≡ file.0)) (same s.file) file.1.0, file.1.1);
+      form = file.2;
+    }
+
+    -- what a fault of the run is of the whole, and the names that were asked for by then
+    pub refusal_of_run : (rose : Type 0) (t : Trouble) → IsRunFault s m t → IsRefusal told words rose t
+    refusal_of_run rose (NoExport line) fault = record { script = s; «module» = m; reads = reads_module; first = fault }
+    refusal_of_run rose Memory fault = (operand, seq)
+    refusal_of_run rose Usage fault = absurd fault
+    refusal_of_run rose BadScript fault = absurd fault
+    refusal_of_run rose (Form n) fault = absurd fault
+    refusal_of_run rose (Read n) fault = absurd fault
+    refusal_of_run rose (TooLarge n) fault = absurd fault
+    refusal_of_run rose Write fault = absurd fault
+
+    pub names_of_run : (t : Trouble) → IsRunFault s m t → Asks mid new (s.file ∷ []) → AsksNames told words old new (Some t)
+    names_of_run (NoExport line) fault a = names_of_both (Some (NoExport line)) (operand, s.file, refl) a
+    names_of_run Memory fault a = names_of_both (Some Memory) tt a
+    names_of_run Usage fault a = absurd fault
+    names_of_run BadScript fault a = absurd fault
+    names_of_run (Form n) fault a = absurd fault
+    names_of_run (Read n) fault a = absurd fault
+    names_of_run (TooLarge n) fault a = absurd fault
+    names_of_run Write fault a = absurd fault
+
 -- the names asked for, where the first step ended with a fault
 pub names_of_first : (told : Told) (words : List (List ℕ)) (old new : Option (List (List ℕ))) (operand : List ℕ) (seq : IsSeq words operand) (rose : Type 0) (t : Trouble) → IsScriptFault told operand rose t → AsksOnce old new operand t → AsksNames told words old new (Some t)
 names_of_first told words old new operand seq rose Usage fault once = absurd fault
 names_of_first told words old new operand seq rose BadScript fault once = (operand ∷ [], once, seq, (operand, refl))
 names_of_first told words old new operand seq rose (Form n) fault once = absurd fault
+names_of_first told words old new operand seq rose (NoExport line) fault once = absurd fault
 names_of_first told words old new operand seq rose (Read n) fault once = (operand ∷ [], once, seq, ([], ap (λ m. m ∷ []) (sym fault.0)))
 names_of_first told words old new operand seq rose (TooLarge n) fault once = (operand ∷ [], once, seq, ([], ap (λ m. m ∷ []) (sym fault.0)))
 names_of_first told words old new operand seq rose Write fault once = absurd fault

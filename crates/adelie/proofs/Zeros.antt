@@ -1,7 +1,7 @@
 -- Zero bytes: how many they are, and one more of them.
 use Rattle.std.proofs.Common.{◌≡◌, ℕ, ◌+◌, List, [], ◌∷◌, ◌++◌, length, ap, ◌∙◌, append_assoc}
 use Rattle.std.proofs.lemmas.List.{append-nil, length-replicate, replicate_more}
-use Rattle.ad_core.specs.Image.{zeros}
+use Rattle.ad_base.specs.Image.{zeros}
 
 pub length-zeros : (n : ℕ) → length (zeros n) ≡ n
 unfolding zeros

@@ -1,20 +1,35 @@
 -- What comes of the command: the files that it reads, and the run of what they say.
-use Rattle.std.specs.Prelude.{◌≡◌, ℕ, ◌≤◌, ◌<◌, ◌⊎◌, List, [], ◌∷◌, ◌++◌, length, take, Option, None, Some, IfSome}
+use Rattle.std.specs.Prelude.{◌≡◌, ℕ, ◌≤◌, ◌<◌, ◌⊎◌, Bool, true, not, List, [], ◌∷◌, ◌++◌, length, take, find, bytes_eq, Option, None, Some, option_map, IfSome}
 use Rattle.std.specs.Io.KnownBytes.{Appends}
 use Rattle.ad_base.specs.declared.layout.TheConstants.{FILE_BYTES}
 use Rattle.ad_base.specs.declared.book.Book.{Book}
-use Rattle.ad_base.specs.declared.book.Entry.{Entry}
-use Rattle.ad_base.specs.declared.place.Place.{Place}
+use Rattle.ad_base.specs.declared.ledger.Moved.{Moved}
+use Rattle.ad_base.specs.declared.ledger.Row.{Row}
 use Rattle.ad_base.specs.Outside.{Tells}
-use Rattle.ad_core.specs.Turn.{IsTurn, IsOpening}
-use Rattle.adelie.specs.declared.script.Script.{Script}
+use Rattle.ad_core.specs.Turn.{IsLawful}
+use Rattle.ad_form.specs.declared.read.Module.{Module}
+use Rattle.ad_form.specs.Object.{IsModule}
+use Rattle.ad_script.specs.declared.script.Script.{Script}
+use Rattle.ad_script.specs.declared.script.Step.{Step}
+use Rattle.ad_script.specs.declared.script.Step.TheVariants.{Call, Move}
+use Rattle.ad_script.specs.Script.{IsScript, line_of}
+use Rattle.adelie.specs.declared.run.TheConstants.{FUEL, SEED}
 use Rattle.adelie.specs.declared.trouble.Trouble.{Trouble}
-use Rattle.adelie.specs.declared.trouble.Trouble.TheVariants.{Usage, BadScript, Form, Read, TooLarge, Write, Memory}
+use Rattle.adelie.specs.declared.trouble.Trouble.TheVariants.{Usage, BadScript, Form, NoExport, Read, TooLarge, Write, Memory}
 use Rattle.adelie.specs.Words.{IsSeq}
-use Rattle.adelie.specs.Script.{IsScript}
-use Rattle.adelie.specs.Object.{IsModule}
-use Rattle.adelie.specs.FormImage.{form_image}
+use Rattle.adelie.specs.Opening.{opening}
+use Rattle.adelie.specs.LineRun.{linked_image, outcome}
+use Rattle.adelie.specs.Ledger.{ledger}
 use Rattle.adelie.specs.Report.{report}
+
+-- the step calls no export of another name than this
+abbrev pub calls_only : List ℕ → Step → Bool
+calls_only name (Call line export args) = bytes_eq export name
+calls_only name (Move line) = true
+
+-- the line of the first step that calls an export of another name
+abbrev pub first_other : List ℕ → List Step → Option ℕ
+first_other name steps = option_map line_of (find (λ s. not (calls_only name s)) steps)
 
 -- what the files of an outside are, as far as it is told: the bytes of each name
 abbrev pub Told : Type 0
@@ -50,21 +65,34 @@ module _ (Has : List ℕ → List ℕ → Type 0) where
     pub read : HasShort operand file
     pub form : IsScript file s
 
-  -- the script's module, whose bytes aren't those of a module with the script's export
+  -- the file that the script names, whose bytes aren't those of a module
   pub record IsBadModule (words : List (List ℕ)) (name : List ℕ) : Type 0 where
     pub script : Script
     pub reads : ReadsScript words script
     pub named : name ≡ script.file
     pub file : List ℕ
     pub read : HasShort name file
-    pub other : (text : List ℕ) → IsModule file script.export text → ⊥
+    pub other : (m : Module) → IsModule file m → ⊥
 
-  -- the script's module, whose bytes are those of a module with this text
-  pub record ReadsModule (words : List (List ℕ)) (s : Script) (text : List ℕ) : Type 0 where
+  -- script and module were read
+  pub record ReadsModule (words : List (List ℕ)) (s : Script) (m : Module) : Type 0 where
     pub script : ReadsScript words s
     pub file : List ℕ
     pub read : HasShort s.file file
-    pub form : IsModule file s.export text
+    pub form : IsModule file m
+
+  -- script and module were read, and this is the first line that calls an export which the module
+  -- hasn't
+  pub record IsNoExport (words : List (List ℕ)) (line : ℕ) : Type 0 where
+    pub script : Script
+    pub «module» : Module
+    pub reads : ReadsModule words script «module»
+    pub first : first_other «module».name script.steps ≡ Some line
+
+  -- script and module were read, and the module has each export that the script calls
+  pub record ReadsAll (words : List (List ℕ)) (s : Script) (m : Module) : Type 0 where
+    pub reads : ReadsModule words s m
+    pub exports : first_other m.name s.steps ≡ None
 
   -- the names asked for are the first ones of the operand and the file that the script names
   abbrev pub AsksFor : List (List ℕ) → List (List ℕ) → Type 0
@@ -83,38 +111,22 @@ IsTooLarge told words name =
 abbrev pub Asks : Option (List (List ℕ)) → Option (List (List ℕ)) → List (List ℕ) → Type 0
 Asks old new names = IfSome old (λ before. new ≡ Some (before ++ names))
 
--- where the stack lies
-abbrev pub stack_place : Place
-stack_place = record { region = 32768; start = 1; pages = 4; mapping = 1; frame = 0 }
+-- What a run tells: the book of the module, which turns of the plain machine reach, what came of the
+-- moves, and the ledger.
+pub record IsOutcome (s : Script) (m : Module) (books : List Book) (moves : List Moved) (rows : List Row) : Type 0 where
+  pub book : books ≡ (outcome SEED FUEL s m).book ∷ []
+  pub lawful : IsLawful (linked_image SEED m) FUEL (outcome SEED FUEL s m).book
+  pub moved : moves ≡ (outcome SEED FUEL s m).moves
+  pub mapped : rows ≡ ledger (opening SEED) moves
 
--- where the movable part lies
-abbrev pub code_place : Place
-code_place = record { region = 3; start = 1; pages = 4; mapping = 3; frame = 0 }
+-- the run of a script and a module that were read, which tells this
+pub record Performs (told : Told) (words : List (List ℕ)) (s : Script) (m : Module) (books : List Book) (moves : List Moved) (rows : List Row) : Type 0 where
+  pub reads : ReadsAll (MayHold told) words s m
+  pub tells : IsOutcome s m books moves rows
 
--- steps that a call may make
-abbrev pub fuel : ℕ
-fuel = 100000
-
--- The book of the module once the script's call was made: it has this one entry, which is a turn from
--- the opening book, under the image of the module's form.
-pub record IsBookOf (s : Script) (text : List ℕ) (book : Book) : Type 0 where
-  pub opening : Book
-  pub opens : IsOpening (form_image text s.export) opening
-  pub entry : Entry
-  pub turn : IsTurn (form_image text s.export) fuel opening entry book
-  pub alone : book.history.entries ≡ entry ∷ []
-  pub line : entry.line ≡ 2
-  pub worker : entry.worker ≡ 0
-  pub export : entry.export ≡ 0
-  pub args : entry.args ≡ s.args
-  pub under : entry.under ≡ code_place
-  pub stack : entry.stack ≡ stack_place
-
--- the run of a script whose book this is: script and module were read, and the book is of both
-pub record Performs (told : Told) (words : List (List ℕ)) (s : Script) (book : Book) : Type 0 where
-  pub text : List ℕ
-  pub reads : ReadsModule (MayHold told) words s text
-  pub book_of : IsBookOf s text book
+-- the report of what a run tells
+abbrev pub text_of : Script → Module → List ℕ
+text_of s m = let a = outcome SEED FUEL s m in report s a.book a.moves (ledger (opening SEED) a.moves)
 
 -- a name that the command reads a file by: the operand, or the file that the script names
 abbrev pub NamesFile : Told → List (List ℕ) → List ℕ → Type 0
@@ -127,25 +139,41 @@ CauseOf told words files_rose sink_rose None = (operand : List ℕ) × IsSeq wor
 CauseOf told words files_rose sink_rose (Some Usage) = (operand : List ℕ) → IsSeq words operand → ⊥
 CauseOf told words files_rose sink_rose (Some BadScript) = IsBadScript (MayHold told) words
 CauseOf told words files_rose sink_rose (Some (Form file)) = IsBadModule (MayHold told) words file
+CauseOf told words files_rose sink_rose (Some (NoExport line)) = IsNoExport (MayHold told) words line
 CauseOf told words files_rose sink_rose (Some (Read name)) = NamesFile told words name × files_rose
 CauseOf told words files_rose sink_rose (Some (TooLarge name)) = NamesFile told words name × IfSome (told name) (λ file. FILE_BYTES < length file)
 CauseOf told words files_rose sink_rose (Some Write) = sink_rose
 CauseOf told words files_rose sink_rose (Some Memory) = (operand : List ℕ) × IsSeq words operand
 
--- What the command leaves: the books, and what the sink took. The whole report was written, or a
--- front of it; in every other case nothing was, and there is no book.
-abbrev pub Leaves : Told → List (List ℕ) → List Book → Option (List ℕ) → Option (List ℕ) → Option Trouble → Type 0
-Leaves told words books old new None =
-    (s : Script) × (book : Book) × Performs told words s book × (books ≡ book ∷ []) × Appends old new (report s book)
-Leaves told words books old new (Some Write) =
-    (s : Script) × (book : Book) × Performs told words s book × (books ≡ book ∷ [])
-    × ((n : ℕ) × (n < length (report s book)) × Appends old new (take n (report s book)))
-Leaves told words books old new (Some Usage) = (books ≡ []) × (new ≡ old)
-Leaves told words books old new (Some BadScript) = (books ≡ []) × (new ≡ old)
-Leaves told words books old new (Some (Form file)) = (books ≡ []) × (new ≡ old)
-Leaves told words books old new (Some (Read name)) = (books ≡ []) × (new ≡ old)
-Leaves told words books old new (Some (TooLarge name)) = (books ≡ []) × (new ≡ old)
-Leaves told words books old new (Some Memory) = (books ≡ []) × (new ≡ old)
+-- books, moves and ledger are empty, and the sink took nothing
+pub record LeavesNothing (books : List Book) (moves : List Moved) (rows : List Row) (old new : Option (List ℕ)) : Type 0 where
+  pub no_book : books ≡ []
+  pub no_move : moves ≡ []
+  pub no_row : rows ≡ []
+  pub nothing_taken : new ≡ old
+
+module _ (told : Told) (words : List (List ℕ)) (books : List Book) (moves : List Moved) (rows : List Row) (old new : Option (List ℕ)) where
+  -- the whole report was written, and books, moves and ledger are those of the run
+  abbrev pub LeavesAll : Type 0
+  LeavesAll = (s : Script) × (m : Module) × Performs told words s m books moves rows × Appends old new (text_of s m)
+
+  -- a prefix of the report was written, which isn't all of it
+  abbrev pub LeavesPrefix : Type 0
+  LeavesPrefix =
+      (s : Script) × (m : Module) × Performs told words s m books moves rows
+      × ((n : ℕ) × (n < length (text_of s m)) × Appends old new (take n (text_of s m)))
+
+  -- what the command leaves, by how it ended
+  abbrev pub Leaves : Option Trouble → Type 0
+  Leaves None = LeavesAll
+  Leaves (Some Write) = LeavesPrefix
+  Leaves (Some Usage) = LeavesNothing books moves rows old new
+  Leaves (Some BadScript) = LeavesNothing books moves rows old new
+  Leaves (Some (Form file)) = LeavesNothing books moves rows old new
+  Leaves (Some (NoExport line)) = LeavesNothing books moves rows old new
+  Leaves (Some (Read name)) = LeavesNothing books moves rows old new
+  Leaves (Some (TooLarge name)) = LeavesNothing books moves rows old new
+  Leaves (Some Memory) = LeavesNothing books moves rows old new
 
 -- the command came to nothing before it wrote
 abbrev pub IsRefused : Option Trouble → Type 0
@@ -153,6 +181,7 @@ IsRefused None = ⊥
 IsRefused (Some Usage) = Unit {0}
 IsRefused (Some BadScript) = Unit {0}
 IsRefused (Some (Form file)) = Unit {0}
+IsRefused (Some (NoExport line)) = Unit {0}
 IsRefused (Some (Read name)) = Unit {0}
 IsRefused (Some (TooLarge name)) = Unit {0}
 IsRefused (Some Write) = ⊥
@@ -174,6 +203,7 @@ EndsAt None names = (operand file : List ℕ) × (names ≡ operand ∷ file ∷
 EndsAt (Some Usage) names = names ≡ []
 EndsAt (Some BadScript) names = (operand : List ℕ) × (names ≡ operand ∷ [])
 EndsAt (Some (Form file)) names = (operand : List ℕ) × (names ≡ operand ∷ file ∷ [])
+EndsAt (Some (NoExport line)) names = (operand file : List ℕ) × (names ≡ operand ∷ file ∷ [])
 EndsAt (Some (Read name)) names = (front : List (List ℕ)) × (names ≡ front ++ name ∷ [])
 EndsAt (Some (TooLarge name)) names = (front : List (List ℕ)) × (names ≡ front ++ name ∷ [])
 EndsAt (Some Write) names = (operand file : List ℕ) × (names ≡ operand ∷ file ∷ [])

@@ -1,9 +1,12 @@
 pub mod Command
-pub mod FormImage
-pub mod Object
+pub mod Ledger
+pub mod Loaded
+pub mod LineLaws
+pub mod LineRun
+pub mod Opening
 pub mod Reach
 pub mod Report
-pub mod Script
+pub mod Run
 pub mod Steps
 pub mod Trouble
 pub mod Turn

@@ -2,11 +2,11 @@
 #![tactic(auto)]
 
 mod bus;
-mod object;
+mod laws;
+mod opening;
 mod read;
 mod report;
 mod run;
-mod script;
 #[cfg(test)]
 mod tests;
 mod top;

@@ -2,15 +2,15 @@
 
 ghost use Rattle.std.specs.Prelude.{◌≡◌, ◌≤◌, ℕ, List, [], ◌∷◌, OnOk, IfOk, IfErr};
 ghost use Rattle.ad_base.specs.Outside.{Rose};
-ghost use Rattle.adelie.specs.Script.{IsScript, IsFileName};
-ghost use Rattle.adelie.specs.Object.{IsModule};
+ghost use Rattle.ad_form.specs.Object.{IsModule};
+ghost use Rattle.ad_script.specs.Script.{IsScript, IsFileName};
 ghost use Rattle.adelie.specs.Command.{MayHold, HasShort, Asks};
 ghost use Rattle.adelie.specs.Steps.{IsFetchFault, IsScriptFault, IsModuleFault, AsksOnce};
 
-use crate::object::read_module;
-use crate::script::{Script, read_script};
 use crate::trouble::Trouble;
-use ad_base::{Fetch, Files, Name, Sequence};
+use ad_base::{Fetch, Files, Name};
+use ad_form::{Module, read_module};
+use ad_script::{Script, law_file_names_are_text, read_script};
 use std::alloc::Global;
 
 /// What the script in the operand's file says.
@@ -28,16 +28,11 @@ pub fn script_of<F: Files>(alloc: Global, files: &mut F, operand: &str) -> Resul
     read_script(alloc, &text)?.ok_or(Trouble::BadScript)
 }
 
-/// The text of the script's module.
-pub fn module_of<F: Files>(
-    alloc: Global,
-    files: &mut F,
-    script: &Script,
-) -> Result<Sequence<u8>, Trouble>
+/// The module in the file that the script names.
+pub fn module_of<F: Files>(alloc: Global, files: &mut F, script: &Script) -> Result<Module, Trouble>
     requires { IsFileName script.now.file }
-    ensures ok { IfOk result (λ text. (file : List ℕ)
-        × HasShort (MayHold (F.bytes files.old)) script.now.file file
-        × IsModule file script.now.export text) }
+    ensures ok { IfOk result (λ m. (file : List ℕ)
+        × HasShort (MayHold (F.bytes files.old)) script.now.file file × IsModule file m) }
     ensures fault { IfErr result (IsModuleFault (F.bytes files.old) script.now
         (Rose (F.faults files.old) (F.faults files.new))) }
     ensures asks { OnOk result (Asks (F.asked files.old) (F.asked files.new) (script.now.file ∷ [])) }
@@ -48,7 +43,7 @@ pub fn module_of<F: Files>(
 {
     let file = fetch(alloc, files, file_text(&script.file))?;
     let named = Name::of(alloc, script.file.bytes())?;
-    read_module(alloc, &file, script.export.bytes())?.ok_or(Trouble::Form { file: named })
+    read_module(alloc, &file)?.ok_or(Trouble::Form { file: named })
 }
 
 /// The name of a file as text: it is ASCII.
@@ -56,6 +51,7 @@ fn file_text(name: &Name) -> &str
     requires { IsFileName name.now }
     ensures { result.now ≡ name.now }
 {
+    law_file_names_are_text();
     match std::str::from_utf8(name.bytes()) {
         Ok(text) => text,
         Err(_) => unreachable!(),

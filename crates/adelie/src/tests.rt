@@ -1,33 +1,81 @@
-//! The command over files and a sink in memory.
+//! The command over files and a sink in memory: worked examples of a run, and each refusal.
 
-use crate::object::tests::SUM as SUM_FILE;
-use crate::object::written;
 use crate::top::{Ended, top_still};
 use ad_base::{MemFile, MemFiles, MemSink, Name, Sequence};
+use ad_form::written;
 use std::alloc::Global;
 use std::process::Abort;
 use std::test::Fail;
 
-/// The text of a function that returns the sum of its two arguments.
-const SUM: [u8; 8] = [0x33, 0x05, 0xb5, 0x00, 0x67, 0x80, 0x00, 0x00];
+/// `jalr x0, 0(ra)`.
+const RETURN: u32 = 0x0000_8067;
 
-/// The text of a function that jumps to its argument.
-const JUMP: [u8; 8] = [0x67, 0x00, 0x05, 0x00, 0x67, 0x80, 0x00, 0x00];
+/// A function that returns the sum of its two arguments: `add a0, a0, a1`.
+const SUM: [u32; 2] = [0x00b5_0533, RETURN];
 
-/// The text of a function that returns the end of its stack.
-const STACK_END: [u8; 8] = [0x13, 0x05, 0x01, 0x00, 0x67, 0x80, 0x00, 0x00];
+/// A function that returns its own address: `auipc a0, 0`.
+const WHEREAMI: [u32; 2] = [0x0000_0517, RETURN];
 
-/// Four instructions: three times one more than before, and the return.
-const COUNT: [u8; 16] = [
-    0x13, 0x05, 0x15, 0x00, 0x13, 0x05, 0x15, 0x00, 0x13, 0x05, 0x15, 0x00, 0x67, 0x80, 0x00, 0x00,
-];
+/// A function that jumps to its argument: `jalr x0, 0(a0)`.
+const JUMP: [u32; 2] = [0x0005_0067, RETURN];
 
-/// What a call of `m.sum` prints that ends so.
-fn report(alloc: Global, end: &str) -> Result<String, Fail> {
-    Ok(format!(in alloc; "call 2 w0 m.sum at 0 under 3: {end}\nend calls 1 moves 0 mappings 3\n")?)
+/// A function that returns the end of its stack: `addi a0, sp, 0`.
+const STACK_END: [u32; 2] = [0x0001_0513, RETURN];
+
+/// A function that returns three more than its argument: `addi a0, a0, 1`, three times.
+const COUNT: [u32; 4] = [0x0015_0513, 0x0015_0513, 0x0015_0513, RETURN];
+
+/// No instruction has this word.
+const NO_INSTRUCTION: [u32; 1] = [0];
+
+/// Bytes that the sink has room for.
+const ROOM: u64 = 4_194_304;
+
+/// The words of a command, and the outside that it is served in. Fetches and writes are counted from 1.
+#[derive(Clone, Copy)]
+struct Given<'a> {
+    words: &'a [&'a str],
+    /// The bytes of the file `s`.
+    script: &'a [u8],
+    /// The bytes of the file `f`.
+    module: &'a [u8],
+    /// The fetches that fail.
+    fetches: &'a [u64],
+    /// Bytes that a write takes at most.
+    most: u64,
+    /// The writes that fail.
+    writes: &'a [u64],
 }
 
-fn words(alloc: Global, list: &[&str]) -> Result<Vec<String>, Fail> {
+/// `seq s` where nothing fails.
+fn seq<'a>(script: &'a [u8], module: &'a [u8]) -> Given<'a> {
+    Given {
+        words: &["seq", "s"],
+        script,
+        module,
+        fetches: &[],
+        most: ROOM,
+        writes: &[],
+    }
+}
+
+/// What came of a command, in plain values.
+#[derive(Drop)]
+struct Served {
+    status: u8,
+    /// The text of the fault, which is empty where there is none.
+    fault: String,
+    written: Vec<u8>,
+    /// How many files were asked for.
+    asked: usize,
+    books: usize,
+    /// How many calls the first book has.
+    calls: u64,
+    moves: usize,
+    rows: usize,
+}
+
+fn word_list(alloc: Global, list: &[&str]) -> Result<Vec<String>, Fail> {
     let mut words = Vec::new(alloc);
     for word in list {
         words.push(String::from_str(alloc, word)?)?;
@@ -35,83 +83,267 @@ fn words(alloc: Global, list: &[&str]) -> Result<Vec<String>, Fail> {
     Ok(words)
 }
 
-fn file(alloc: Global, name: &str, bytes: &[u8]) -> Result<MemFile, Fail> {
+fn file(alloc: Global, name: &[u8], bytes: &[u8]) -> Result<MemFile, Fail> {
     Ok(MemFile {
-        name: Name::of(alloc, name.as_bytes())?,
+        name: Name::of(alloc, name)?,
         bytes: Sequence::of(Vec::from_slice(alloc, bytes)?),
     })
 }
 
-/// A script `s` and a module `f`, of which the fetches of these numbers fail.
-fn files(alloc: Global, script: &[u8], module: &[u8], fail: &[u64]) -> Result<MemFiles, Fail> {
+fn files(alloc: Global, given: &Given) -> Result<MemFiles, Fail> {
     let mut list = Vec::new(alloc);
-    list.push(file(alloc, "s", script)?)?;
-    list.push(file(alloc, "f", module)?)?;
-    Ok(MemFiles::new(list, Vec::from_slice(alloc, fail)?))
+    list.push(file(alloc, b"s", given.script)?)?;
+    list.push(file(alloc, b"f", given.module)?)?;
+    Ok(MemFiles::new(list, Vec::from_slice(alloc, given.fetches)?))
 }
 
-fn sink(alloc: Global, most: u64, fail: &[u64]) -> Result<MemSink, Fail> {
-    let most = most.max(1);
-    Ok(MemSink::new(alloc, 4096, most, Vec::from_slice(alloc, fail)?)?)
+fn sink(alloc: Global, given: &Given) -> Result<MemSink, Fail> {
+    let writes = Vec::from_slice(alloc, given.writes)?;
+    Ok(MemSink::new(alloc, ROOM, given.most.max(1), writes)?)
 }
 
-/// Asserts the status and the text of the fault, which is empty at status 0.
-fn expect_fault(
-    rt: &(impl Abort + AllocGlobal),
+fn plain_values(
+    alloc: Global,
     ended: &Ended,
-    status: u8,
-    text: &str,
+    files: &MemFiles,
+    out: &MemSink,
+) -> Result<Served, Fail> {
+    Ok(Served {
+        status: ended.status,
+        fault: match &ended.fault {
+            None => String::new(alloc),
+            Some(trouble) => format!(in alloc; "{trouble}")?,
+        },
+        written: Vec::from_slice(alloc, out.taken())?,
+        asked: files.asked().len(),
+        books: ended.books.len(),
+        calls: ended.books.first().map_or(0, |book| book.history.len()),
+        moves: ended.moves.len(),
+        rows: ended.ledger.len(),
+    })
+}
+
+/// Serves a command. No other test calls `top_still`, whose contract is long.
+fn serve(rt: &impl AllocGlobal, given: &Given) -> Result<Served, Fail> {
+    let alloc = rt.alloc();
+    let words = word_list(alloc, given.words)?;
+    let mut files = files(alloc, given)?;
+    let mut out = sink(alloc, given)?;
+    let ended = top_still(rt, words.as_slice(), &mut files, &mut out);
+    plain_values(alloc, &ended, &files, &out)
+}
+
+/// The object of these instruction words.
+fn object(rt: &(impl Abort + AllocGlobal), words: &[u32], name: &[u8]) -> Result<Vec<u8>, Fail> {
+    let alloc = rt.alloc();
+    let mut text = Vec::new(alloc);
+    for word in words {
+        text.extend_from_slice(&word.to_le_bytes())?;
+    }
+    assert!(rt; text.len() <= 4096);
+    Ok(written(alloc, text.as_slice(), name)?)
+}
+
+/// Asserts the status and the text of the fault.
+fn expect_fault(rt: &impl Abort, served: &Served, status: u8, fault: &str) {
+    assert_eq!(rt; served.fault.as_str(), fault);
+    assert_eq!(rt; served.status, status, "{fault}");
+}
+
+/// Asserts that a command was refused for this, before anything was done or written.
+fn expect_refused(rt: &impl Abort, served: &Served, status: u8, fault: &str, asked: usize) {
+    expect_fault(rt, served, status, fault);
+    assert_eq!(rt; served.asked, asked, "{fault}");
+    assert_eq!(rt; served.written.len(), 0, "{fault}");
+    assert_eq!(rt;
+        (served.books, served.moves, served.rows),
+        (0, 0, 0),
+        "{fault}"
+    );
+}
+
+const SUM_REPORT: &[u8] = b"call 2 w0 m.sum at 0 under 3: returned 5
+map 1 stack w0 region 47222 start 24 pages 4 retired 0 unmapped 0
+map 2 fixed m region 29432 start 1 pages 2 retired 0 unmapped 0
+map 3 code m region 13105 start 43 pages 4 retired 0 unmapped 0
+end calls 1 moves 0 mappings 3
+";
+
+const WHEREAMI_REPORT: &[u8] = b"call 2 w0 m.whereami at 0 under 3: returned 3435573248
+move 3 m: mapping 4
+call 4 w0 m.whereami at 1 under 4: returned 7143641088
+map 1 stack w0 region 47222 start 24 pages 4 retired 0 unmapped 0
+map 2 fixed m region 29432 start 1 pages 2 retired 0 unmapped 0
+map 3 code m region 13105 start 43 pages 4 retired 3 unmapped 1
+map 4 code m region 27250 start 53 pages 4 retired 0 unmapped 0
+end calls 2 moves 1 mappings 4
+";
+
+const LOAD_REPORT: &[u8] = b"map 1 stack w0 region 47222 start 24 pages 4 retired 0 unmapped 0
+map 2 fixed m region 29432 start 1 pages 2 retired 0 unmapped 0
+map 3 code m region 13105 start 43 pages 4 retired 0 unmapped 0
+end calls 0 moves 0 mappings 3
+";
+
+#[test]
+fn whole_reports(rt: HostRuntime) -> Result<(), Fail> {
+    let cases: [(&[u32], &[u8], &[u8], &[u8]); 3] = [
+        (&SUM, b"sum", b"load m f\ncall 0 m.sum 2 3\n", SUM_REPORT),
+        (
+            &WHEREAMI,
+            b"whereami",
+            b"load m f\ncall 0 m.whereami\nmove m\ncall 0 m.whereami\n",
+            WHEREAMI_REPORT,
+        ),
+        (&SUM, b"sum", b"load m f\n", LOAD_REPORT),
+    ];
+    for (words, name, script, report) in cases {
+        let module = object(&rt, words, name)?;
+        let served = serve(&rt, &seq(script, module.as_slice()))?;
+        expect_fault(&rt, &served, 0, "");
+        assert_eq!(rt; served.written.as_slice(), report);
+        assert_eq!(rt; (served.asked, served.books), (2, 1));
+    }
+    Ok(())
+}
+
+/// Asserts that the report of a module's lines begins so. The module's one export is `e`.
+fn expect_begin(
+    rt: &(impl Abort + AllocGlobal),
+    words: &[u32],
+    lines: &str,
+    begin: &str,
 ) -> Result<(), Fail> {
-    assert_eq!(rt; ended.status, status, "{text}");
-    let printed = match &ended.fault {
-        None => String::new(rt.alloc()),
-        Some(trouble) => format!(in rt.alloc(); "{trouble}")?,
-    };
-    assert_eq!(rt; printed.as_str(), text);
+    let module = object(rt, words, b"e")?;
+    let script = format!(in rt.alloc(); "load m f\n{lines}")?;
+    let served = serve(rt, &seq(script.as_bytes(), module.as_slice()))?;
+    expect_fault(rt, &served, 0, "");
+    assert!(rt;
+        served.written.as_slice().starts_with(begin.as_bytes()),
+        "{begin}"
+    );
     Ok(())
 }
 
 #[test]
 fn replies(rt: HostRuntime) -> Result<(), Fail> {
-    let alloc = rt.alloc();
-    let cases: [(&[u8], &[u8], &str); 12] = [
-        (&SUM, b" 2 3", "returned 5"),
-        (&SUM, b"", "returned 0"),
-        (&SUM, b" 18446744073709551615 1", "returned 0"),
-        (&SUM, b" 002 3 9 9 9 9 9 9", "returned 5"),
-        (&COUNT, b" 4", "returned 7"),
-        (&[0, 0, 0, 0], b"", "trap illegal"),
-        // The movable part lies at 790528. A jump to its start goes on until the fuel is spent.
-        (&JUMP, b" 790528", "trap fuel"),
-        (&JUMP, b" 790530", "trap misaligned"),
-        (&JUMP, b" 0", "trap fault"),
+    let cases: [(&[u32], &str, &str); 12] = [
+        (&SUM, " 2 3", "returned 5"),
+        (&SUM, "", "returned 0"),
+        (&SUM, " 18446744073709551615 1", "returned 0"),
+        (&SUM, " 002 3 9 9 9 9 9 9", "returned 5"),
+        (&COUNT, " 4", "returned 7"),
+        (&NO_INSTRUCTION, "", "trap illegal"),
+        // The movable part lies at 3435573248. A jump to its start goes on until the fuel is spent.
+        (&JUMP, " 3435573248", "trap fuel"),
+        (&JUMP, " 3435573250", "trap misaligned"),
+        (&JUMP, " 0", "trap fault"),
         // Behind the text page and the stub page lies the page of the fixed table.
-        (&JUMP, b" 798720", "trap denied"),
-        (&JUMP, b" 262144", "returned 262144"),
-        // The stack lies from 8589938688 on, and has 16,384 bytes.
-        (&STACK_END, b"", "returned 8589955072"),
+        (&JUMP, " 3435581440", "trap denied"),
+        (&JUMP, " 262144", "returned 262144"),
+        // The stack lies from 12379062272 on, and has 16,384 bytes.
+        (&STACK_END, "", "returned 12379078656"),
     ];
-    for (text, args, end) in cases {
-        assert!(rt; text.len() <= 16);
-        let mut script = Vec::from_slice(alloc, b"load m f\ncall 0 m.sum")?;
-        script.extend_from_slice(args)?;
-        script.push(b'\n')?;
-        let mut files = files(alloc, &script, &written(alloc, text, b"sum")?, &[])?;
-        let mut out = sink(alloc, 4096, &[])?;
-        let words = words(alloc, &["seq", "s"])?;
-        let ended = top_still(&rt, &words, &mut files, &mut out);
-        expect_fault(&rt, &ended, 0, "")?;
-        assert_eq!(rt; out.taken(), report(alloc, end)?.as_bytes(), "{end}");
-        assert_eq!(rt; ended.books.len(), 1);
-        assert_eq!(rt; ended.moves.len() + ended.ledger.len(), 0);
-        assert_eq!(rt; files.asked().len(), 2);
+    for (words, args, end) in cases {
+        let line = format!(in rt.alloc(); "call 0 m.e{args}\n")?;
+        let begin = format!(in rt.alloc(); "call 2 w0 m.e at 0 under 3: {end}\n")?;
+        expect_begin(&rt, words, line.as_str(), begin.as_str())?;
     }
     Ok(())
 }
 
 #[test]
-fn usage(rt: HostRuntime) -> Result<(), Fail> {
+fn addresses_after_a_move(rt: HostRuntime) -> Result<(), Fail> {
+    // Each mapping of the movable part has its own base.
+    expect_begin(
+        &rt,
+        &WHEREAMI,
+        "call 0 m.e\nmove m\ncall 0 m.e\nmove m\ncall 0 m.e\n",
+        "call 2 w0 m.e at 0 under 3: returned 3435573248\n\
+         move 3 m: mapping 4\n\
+         call 4 w0 m.e at 1 under 4: returned 7143641088\n\
+         move 5 m: mapping 5\n\
+         call 6 w0 m.e at 2 under 5: returned 3441586176\n\
+         map 1 ",
+    )?;
+    // An address of the part, which a caller kept over a move, is of no use.
+    expect_begin(
+        &rt,
+        &JUMP,
+        "call 0 m.e 3435573248\nmove m\ncall 0 m.e 3435573248\ncall 0 m.e 7143641088\n",
+        "call 2 w0 m.e at 0 under 3: trap fuel\n\
+         move 3 m: mapping 4\n\
+         call 4 w0 m.e at 1 under 4: trap fault\n\
+         call 5 w0 m.e at 2 under 4: trap fuel\n\
+         map 1 ",
+    )
+}
+
+/// The script that loads the module and then has these lines over and over, so many times.
+fn repeated(alloc: Global, lines: &[u8], times: usize) -> Result<Vec<u8>, Fail> {
+    let mut script = Vec::from_slice(alloc, b"load m f\n")?;
+    for _ in 0..times {
+        script.extend_from_slice(lines)?;
+    }
+    Ok(script)
+}
+
+/// Asserts that the report of a script of the adder has these lines, and ends so.
+fn expect_lines_and_end(
+    rt: &(impl Abort + AllocGlobal),
+    script: &[u8],
+    lines: &str,
+    end: &str,
+) -> Result<(), Fail> {
+    let module = object(rt, &SUM, b"sum")?;
+    let served = serve(rt, &seq(script, module.as_slice()))?;
+    expect_fault(rt, &served, 0, "");
+    let report = std::str::from_utf8(served.written.as_slice())?;
+    assert!(rt; report.contains(lines), "{lines}");
+    assert!(rt; report.ends_with(end), "{end}");
+    Ok(())
+}
+
+#[test]
+fn the_last_mapping_number(rt: HostRuntime) -> Result<(), Fail> {
+    let script = repeated(rt.alloc(), b"move m\n", 4093)?;
+    expect_lines_and_end(
+        &rt,
+        script.as_slice(),
+        "\nmove 4093 m: mapping 4095\nmove 4094 m: spent\nmap 1 ",
+        "\nmap 4094 code m region 22592 start 38 pages 4 retired 4093 unmapped 1\n\
+         map 4095 code m region 19861 start 31 pages 4 retired 0 unmapped 0\n\
+         end calls 0 moves 4092 mappings 4095\n",
+    )
+}
+
+#[test]
+fn the_longest_script(rt: HostRuntime) -> Result<(), Fail> {
     let alloc = rt.alloc();
+    let calls = b"call 0 m.sum 2 3\ncall 0 m.sum\ncall 0 m.sum 1\ncall 0 m.sum 4 4\n";
+    let mut lines = Vec::from_slice(alloc, calls)?;
+    lines.extend_from_slice(b"move m\n")?;
+    // The load, 3,999 times five lines, and four calls more.
+    let mut script = repeated(alloc, lines.as_slice(), 3999)?;
+    script.extend_from_slice(calls)?;
+    expect_lines_and_end(
+        &rt,
+        script.as_slice(),
+        "\nmove 19996 m: mapping 4002\n\
+         call 19997 w0 m.sum at 15996 under 4002: returned 5\n\
+         call 19998 w0 m.sum at 15997 under 4002: returned 0\n\
+         call 19999 w0 m.sum at 15998 under 4002: returned 1\n\
+         call 20000 w0 m.sum at 15999 under 4002: returned 8\n\
+         map 1 ",
+        "\nmap 4001 code m region 5119 start 57 pages 4 retired 19996 unmapped 1\n\
+         map 4002 code m region 3419 start 32 pages 4 retired 0 unmapped 0\n\
+         end calls 16000 moves 3999 mappings 4002\n",
+    )
+}
+
+#[test]
+fn words_of_no_grammar(rt: HostRuntime) -> Result<(), Fail> {
+    let module = object(&rt, &SUM, b"sum")?;
     let lists: [&[&str]; 7] = [
         &[],
         &["seq"],
@@ -121,105 +353,101 @@ fn usage(rt: HostRuntime) -> Result<(), Fail> {
         &["seq", "s", "f"],
         &["s", "seq"],
     ];
-    for list in lists {
-        let mut files = files(alloc, b"load m f\ncall 0 m.sum\n", &SUM, &[])?;
-        let mut out = sink(alloc, 4096, &[])?;
-        let ended = top_still(&rt, &words(alloc, list)?, &mut files, &mut out);
-        expect_fault(&rt, &ended, 1, "adelie: usage")?;
-        assert_eq!(rt;
-            files.asked().len() + out.taken().len() + ended.books.len(),
-            0
-        );
+    for words in lists {
+        let given = Given {
+            words,
+            ..seq(b"load m f\n", module.as_slice())
+        };
+        let served = serve(&rt, &given)?;
+        expect_refused(&rt, &served, 1, "adelie: usage", 0);
     }
     Ok(())
 }
 
 #[test]
-fn other_forms(rt: HostRuntime) -> Result<(), Fail> {
-    let alloc = rt.alloc();
-    let mut longer = Vec::from_slice(alloc, &SUM_FILE)?;
+fn scripts_and_modules_that_are_refused(rt: HostRuntime) -> Result<(), Fail> {
+    let adder = object(&rt, &SUM, b"sum")?;
+    let sum = adder.as_slice();
+    let other = object(&rt, &SUM, b"sun")?;
+    let mut longer = adder.clone()?;
     longer.push(0)?;
-    // The alignment of the text is 8.
-    let mut aligned = SUM_FILE;
-    aligned[160 + 64 + 48] = 8;
-    // The symbol stands twice, and the symbol table says so.
-    let mut twice = Vec::from_slice(alloc, &SUM_FILE[..120])?;
-    twice.extend_from_slice(&SUM_FILE[96..])?;
-    assert_eq!(rt; twice.len(), 504);
-    twice[184 + 2 * 64 + 32] = 72;
-    twice[40] = 184;
-    let script: &[u8] = b"load m f\ncall 0 m.sum 2 3\n";
-    let two_loads: &[u8] = b"load m f\nload n f\ncall 0 m.sum 2 3\n";
-    let no_export: &[u8] = b"load m f\ncall 0 m.none\n";
-    let form = "adelie: module f: form";
-    let cases: [(&[u8], &[u8], u8, &str, usize); 8] = [
-        (two_loads, &SUM_FILE, 2, "adelie: script", 1),
-        (b"", &SUM_FILE, 2, "adelie: script", 1),
-        (no_export, &SUM_FILE, 3, form, 2),
-        (script, &SUM_FILE[..479], 3, form, 2),
-        (script, &longer, 3, form, 2),
-        (script, &aligned, 3, form, 2),
-        (script, &twice, 3, form, 2),
-        (script, &[], 3, form, 2),
+    let long = longer.as_slice();
+    // As many bytes as a file may have.
+    let spaces = vec![in rt.alloc(); b' '; 1_048_576]?;
+    let call: &[u8] = b"load m f\ncall 0 m.sum 2 3\n";
+    let none: &[u8] = b"load m f\ncall 0 m.none\n";
+    let later: &[u8] = b"load m f\ncall 0 m.sum\nmove m\ncall 0 m.none\ncall 0 m.one\n";
+    let loads: &[u8] = b"load m f\nload n f\n";
+    let cases: [(&[u8], &[u8], u8, &str, usize); 9] = [
+        (b"", sum, 2, "adelie: script", 1),
+        (loads, sum, 2, "adelie: script", 1),
+        (spaces.as_slice(), sum, 2, "adelie: script", 1),
+        (call, long, 3, "adelie: module f: form", 2),
+        (call, b"", 3, "adelie: module f: form", 2),
+        (none, long, 3, "adelie: module f: form", 2),
+        (none, sum, 3, "adelie: line 2: no export", 2),
+        (later, sum, 3, "adelie: line 4: no export", 2),
+        (call, other.as_slice(), 3, "adelie: line 2: no export", 2),
     ];
-    for (script, module, status, text, asked) in cases {
-        let mut files = files(alloc, script, module, &[])?;
-        let mut out = sink(alloc, 4096, &[])?;
-        let ended = top_still(&rt, &words(alloc, &["seq", "s"])?, &mut files, &mut out);
-        expect_fault(&rt, &ended, status, text)?;
-        assert_eq!(rt; files.asked().len(), asked, "{text}");
-        assert_eq!(rt; out.taken().len() + ended.books.len(), 0);
+    for (script, module, status, fault, asked) in cases {
+        let served = serve(&rt, &seq(script, module))?;
+        expect_refused(&rt, &served, status, fault, asked);
     }
     Ok(())
 }
 
 #[test]
 fn files_that_are_not_read(rt: HostRuntime) -> Result<(), Fail> {
-    let alloc = rt.alloc();
-    let module = written(alloc, &SUM, b"sum")?;
-    let script: &[u8] = b"load m f\ncall 0 m.sum 2 3\n";
+    let adder = object(&rt, &SUM, b"sum")?;
+    let sum = adder.as_slice();
+    let call: &[u8] = b"load m f\ncall 0 m.sum 2 3\n";
     let absent: &[u8] = b"load m g\ncall 0 m.sum 2 3\n";
-    let limit = vec![in alloc; b' '; 1_048_576]?;
-    let long = vec![in alloc; b' '; 1_048_577]?;
-    let cases: [(&str, &[u8], &[u8], &[u64], u8, &str, usize); 7] = [
-        ("s", script, &module, &[1], 4, "adelie: read s", 1),
-        ("s", script, &module, &[2], 4, "adelie: read f", 2),
-        ("t", script, &module, &[], 4, "adelie: read t", 1),
-        ("s", absent, &module, &[], 4, "adelie: read g", 2),
-        ("s", &long, &module, &[], 4, "adelie: read s: too large", 1),
-        ("s", script, &long, &[], 4, "adelie: read f: too large", 2),
-        ("s", &limit, &module, &[], 2, "adelie: script", 1),
+    let spaces = vec![in rt.alloc(); b' '; 1_048_577]?;
+    let long = spaces.as_slice();
+    let cases: [(&str, &[u8], &[u8], &[u64], &str, usize); 6] = [
+        ("s", call, sum, &[1], "adelie: read s", 1),
+        ("s", call, sum, &[2], "adelie: read f", 2),
+        ("t", call, sum, &[], "adelie: read t", 1),
+        ("s", absent, sum, &[], "adelie: read g", 2),
+        ("s", long, sum, &[], "adelie: read s: too large", 1),
+        ("s", call, long, &[], "adelie: read f: too large", 2),
     ];
-    for (operand, script, module, fail, status, text, asked) in cases {
-        let mut files = files(alloc, script, module, fail)?;
-        let mut out = sink(alloc, 4096, &[])?;
-        let ended = top_still(&rt, &words(alloc, &["seq", operand])?, &mut files, &mut out);
-        expect_fault(&rt, &ended, status, text)?;
-        assert_eq!(rt; files.asked().len(), asked, "{text}");
-        assert_eq!(rt; out.taken().len() + ended.books.len(), 0);
+    for (operand, script, module, fetches, fault, asked) in cases {
+        let given = Given {
+            words: &["seq", operand],
+            fetches,
+            ..seq(script, module)
+        };
+        let served = serve(&rt, &given)?;
+        expect_refused(&rt, &served, 4, fault, asked);
     }
     Ok(())
 }
 
 #[test]
-fn a_write_that_fails(rt: HostRuntime) -> Result<(), Fail> {
-    let alloc = rt.alloc();
-    let module = written(alloc, &SUM, b"sum")?;
-    let whole = report(alloc, "returned 5")?;
+fn writes_that_fail(rt: HostRuntime) -> Result<(), Fail> {
+    let module = object(&rt, &WHEREAMI, b"whereami")?;
+    let script = b"load m f\ncall 0 m.whereami\nmove m\ncall 0 m.whereami\n";
     let cases: [(u64, &[u64], usize, u8, &str); 4] = [
-        (16, &[2], 16, 5, "adelie: write"),
         (16, &[1], 0, 5, "adelie: write"),
-        (16, &[], 72, 0, ""),
-        (1, &[72], 71, 5, "adelie: write"),
+        (16, &[2], 16, 5, "adelie: write"),
+        (1, &[419], 418, 5, "adelie: write"),
+        (16, &[], 419, 0, ""),
     ];
-    for (most, fail, taken, status, text) in cases {
-        let mut files = files(alloc, b"load m f\ncall 0 m.sum 2 3\n", &module, &[])?;
-        let mut out = sink(alloc, most, fail)?;
-        let ended = top_still(&rt, &words(alloc, &["seq", "s"])?, &mut files, &mut out);
-        expect_fault(&rt, &ended, status, text)?;
-        assert_eq!(rt; ended.books.len(), 1);
-        assert!(rt; taken <= whole.len());
-        assert_eq!(rt; out.taken(), &whole.as_bytes()[..taken], "{text}");
+    for (most, writes, taken, status, fault) in cases {
+        let usual = seq(script, module.as_slice());
+        let served = serve(
+            &rt,
+            &Given {
+                most,
+                writes,
+                ..usual
+            },
+        )?;
+        expect_fault(&rt, &served, status, fault);
+        assert_eq!(rt; served.written.len(), taken);
+        assert!(rt; WHEREAMI_REPORT.starts_with(served.written.as_slice()));
+        assert_eq!(rt; (served.calls, served.moves, served.rows), (2, 1, 4));
     }
     Ok(())
 }

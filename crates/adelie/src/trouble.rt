@@ -16,6 +16,8 @@ pub enum Trouble {
     BadScript,
     /// The module of this file has another form.
     Form { file: Name },
+    /// This line of the script calls an export that its module hasn't.
+    NoExport { line: u64 },
     /// The file of this name couldn't be read.
     Read { name: Name },
     /// The file of this name has too many bytes.
@@ -34,7 +36,7 @@ impl Trouble {
         match self {
             Trouble::Usage => 1,
             Trouble::BadScript => 2,
-            Trouble::Form { .. } => 3,
+            Trouble::Form { .. } | Trouble::NoExport { .. } => 3,
             Trouble::Read { .. } | Trouble::TooLarge { .. } => 4,
             Trouble::Write => 5,
             Trouble::Memory => 6,
@@ -64,6 +66,7 @@ impl fmt::Display for Trouble {
             Trouble::Usage => write!(f, "adelie: usage"),
             Trouble::BadScript => write!(f, "adelie: script"),
             Trouble::Form { file } => write!(f, "adelie: module {file}: form"),
+            Trouble::NoExport { line } => write!(f, "adelie: line {line}: no export"),
             Trouble::Read { name } => write!(f, "adelie: read {name}"),
             Trouble::TooLarge { name } => write!(f, "adelie: read {name}: too large"),
             Trouble::Write => write!(f, "adelie: write"),

@@ -1,14 +1,12 @@
 //! One call of a module, on the plain machine.
 
-ghost use Rattle.std.specs.Prelude.{◌<◌, length};
-ghost use Rattle.ad_base.specs.declared.book.Entry.{Entry};
-ghost use Rattle.ad_core.specs.Turn.{IsTurn};
+ghost use Rattle.std.specs.Prelude.{◌≡◌, ◌+◌, ◌<◌, length};
 ghost use Rattle.adelie.specs.Reach.{ReachesWhole};
-ghost use Rattle.adelie.specs.Turn.{IsEntryOf};
+ghost use Rattle.adelie.specs.Turn.{after_call};
 
 use crate::bus::ModuleBus;
 use ad_base::{Args, Book, Entry, Image, Notes, PAGE_BYTES, Place, STACK_PAGES};
-use ad_core::call;
+use ad_core::{call, law_sizes_stay};
 
 /// A call that is to be made, but for its arguments.
 #[derive(Clone, Copy, Debug)]
@@ -28,7 +26,9 @@ pub fn perform(image: &Image, book: Book, order: Order, args: &Args, fuel: u64) 
     requires whole { ReachesWhole image.now book.writable book.fixed }
     requires export { order.export < length image.now.exports }
     requires room { 0 < book.history.room }
-    ensures turn { (e : Entry) × IsEntryOf order args.now e × IsTurn image.now fuel book e result }
+    ensures book { result ≡ after_call image.now fuel book order args.now }
+    ensures whole { ReachesWhole image.now result.writable result.fixed }
+    ensures room { result.history.room + 1 ≡ book.history.room }
 {
     let Book {
         writable,
@@ -48,6 +48,7 @@ pub fn perform(image: &Image, book: Book, order: Order, args: &Args, fuel: u64) 
         device,
         notes: Notes::new(),
     };
+    law_sizes_stay();
     let end = call(&mut bus, entry, args, sp, fuel);
     let ModuleBus {
         writable,

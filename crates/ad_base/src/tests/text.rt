@@ -1,6 +1,6 @@
-//! Printed text.
+//! Printed text, and names of exports.
 
-use crate::{End, Name, OutOfMemory};
+use crate::{End, Name, OutOfMemory, is_export_name, is_name_byte};
 use std::test::Fail;
 
 #[test]
@@ -33,4 +33,13 @@ fn names_are_printed_as_text(rt: HostRuntime) -> Result<(), Fail> {
     let text = format!(in rt.alloc(); "{}", OutOfMemory)?;
     assert_eq!(rt; text.as_str(), "out of memory");
     Ok(())
+}
+
+#[test]
+fn names_of_exports(rt: HostRuntime) {
+    assert!(rt; is_export_name(b"_Z3sum.part$0"));
+    for name in [b"".as_slice(), b"a b", b"a-b", b"\xc3\xa9"] {
+        assert!(rt; !is_export_name(name), "{name:?}");
+    }
+    assert!(rt; is_name_byte(b'_') && !is_name_byte(b'.'));
 }

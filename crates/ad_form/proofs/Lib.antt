@@ -1,0 +1,5 @@
+pub mod Appends
+pub mod File
+pub mod FormImage
+pub mod OneModule
+pub mod Zeros

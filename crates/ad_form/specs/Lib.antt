@@ -1,0 +1,2 @@
+pub mod FormImage
+pub mod Object

@@ -1,0 +1,5 @@
+pub mod ArgumentText
+pub mod LoadText
+pub mod Splitting
+pub mod StepText
+pub mod StepsText
