@@ -7,5 +7,5 @@ mod region;
 #[cfg(test)]
 mod tests;
 
-pub use laws::{law_appending, law_places};
+pub use laws::{law_appending, law_next, law_places};
 pub use placer::Placer;

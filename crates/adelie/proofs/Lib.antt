@@ -1,4 +1,6 @@
+pub mod Apart
 pub mod Causes
+pub mod ClearHistory
 pub mod Ledgers
 pub mod LineLaws
 pub mod Lists

@@ -37,7 +37,7 @@ use Rattle.adelie.specs.Turn.{after_call, entry_of, ordered}
 use Rattle.adelie.proofs.Turns.{offset_there}
 
 -- what each step of a fold keeps, the whole fold keeps
-fold-keeps : {A S : Type 0} (P : A → Type 0) (f : A → S → A) → ((a : A) (x : S) → P a → P (f a x)) → (a : A) (xs : List S) → P a → P (fold f a xs)
+pub fold-keeps : {A S : Type 0} (P : A → Type 0) (f : A → S → A) → ((a : A) (x : S) → P a → P (f a x)) → (a : A) (xs : List S) → P a → P (fold f a xs)
 fold-keeps P f step a [] p = p
 fold-keeps P f step a (x ∷ xs) p = fold-keeps P f step (f a x) xs (step a x p)
 

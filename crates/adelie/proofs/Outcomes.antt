@@ -7,7 +7,8 @@ use Rattle.ad_script.specs.declared.script.Step.{Step}
 use Rattle.adelie.specs.declared.opening.Loaded.{Loaded}
 use Rattle.adelie.specs.declared.run.TheConstants.{FUEL, SEED}
 use Rattle.adelie.specs.Command.{IsOutcome, text_of}
-use Rattle.adelie.specs.LineRun.{Account, line_run, opening_account, outcome}
+use Rattle.adelie.specs.ClearHistory.{RepliesAsReplayed}
+use Rattle.adelie.specs.LineRun.{Account, line_run, linked_image, opening_account, outcome}
 use Rattle.adelie.specs.Ledger.{ledger}
 use Rattle.adelie.specs.Loaded.{IsLoaded}
 use Rattle.adelie.specs.Opening.{opening}
@@ -20,9 +21,9 @@ unfolding outcome
 run_of seed fuel s m l steps is e = λ j. line_run (is.image j) (is.opening j).stack fuel (opening_account (is.image j) (is.opening j).code (is.placer j) (length (e j))) (e j)
 
 -- its books, moves and rows are the outcome's, and so is their report
-module _ (s : Script) (m : Module) (a : Account) (rows : List Row) (is : a ≡ outcome SEED FUEL s m) (mapped : rows ≡ ledger (opening SEED) a.moves) where
+module _ (s : Script) (m : Module) (a : Account) (rows : List Row) (is : a ≡ outcome SEED FUEL s m) (clear : RepliesAsReplayed (linked_image SEED m) FUEL (outcome SEED FUEL s m).book.history.entries) (mapped : rows ≡ ledger (opening SEED) a.moves) where
   pub told : IsOutcome s m (a.book ∷ []) a.moves rows
-  told = record { book = ap (λ b. b.book ∷ []) is; lawful = lawful SEED FUEL s m; moved = ap (λ b. b.moves) is; mapped = mapped }
+  told = record { book = ap (λ b. b.book ∷ []) is; lawful = lawful SEED FUEL s m; clear = clear; moved = ap (λ b. b.moves) is; mapped = mapped }
 
   pub printed : report s a.book a.moves rows ≡ text_of s m
   printed = ap (λ r. report s a.book a.moves r) mapped ∙ ap (λ b. report s b.book b.moves (ledger (opening SEED) b.moves)) is

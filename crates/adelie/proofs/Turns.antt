@@ -14,17 +14,17 @@ use Rattle.ad_core.specs.Plain.{Outcome, plain_call, at_start}
 use Rattle.ad_core.specs.Image.{segments_of, fresh_stack}
 use Rattle.ad_core.specs.Turn.{reached, bytes_at}
 use Rattle.adelie.specs.declared.turn.Order.{Order}
-use Rattle.adelie.specs.Turn.{after_call, entry_of, offset_of, ordered}
+use Rattle.adelie.specs.Turn.{after_call, entry_of, export_offset, ordered}
 
 module _ (image seen : Image) (under' stack' : Place) (fuel : ℕ) (book : Book) (o : Order) (args : List ℕ) (entry sp : ℕ) (notes : List ℕ) where
   -- the call that the code makes is the plain machine's of the order
-  same_call : entry ≡ (base_of o.under + offset_of image o.export) % 2 ^ 64 → sp ≡ base_of o.stack + 4 * 4096 → notes ≡ [] → plain_call fuel entry args sp (at_start (segments_of image o.under o.stack fresh_stack book.fixed book.writable) notes book.device) ≡ ordered image fuel book o args
+  same_call : entry ≡ (base_of o.under + export_offset image o.export) % 2 ^ 64 → sp ≡ base_of o.stack + 4 * 4096 → notes ≡ [] → plain_call fuel entry args sp (at_start (segments_of image o.under o.stack fresh_stack book.fixed book.writable) notes book.device) ≡ ordered image fuel book o args
   unfolding ordered
   same_call e s n = λ j. plain_call fuel (e j) args (s j) (at_start (reached image book o.under o.stack) (n j) book.device)
 
   -- the book that the code makes is that of the order's call
   pub call_made : (copy : List ℕ) (end : End) (made writable fixed device : List ℕ) (history : Calls) →
-      copy ≡ args → entry ≡ (base_of o.under + offset_of image o.export) % 2 ^ 64 → sp ≡ base_of o.stack + 4 * 4096 → notes ≡ [] →
+      copy ≡ args → entry ≡ (base_of o.under + export_offset image o.export) % 2 ^ 64 → sp ≡ base_of o.stack + 4 * 4096 → notes ≡ [] →
       let outcome = plain_call fuel entry args sp (at_start (segments_of image o.under o.stack fresh_stack book.fixed book.writable) notes book.device) in
       end ≡ outcome.end → segments_of seen under' stack' fresh_stack fixed writable ≡ outcome.memory.segments → made ≡ outcome.memory.notes → device ≡ outcome.memory.queue →
       let e : Entry = record { line = o.line; worker = o.worker; export = o.export; args = copy; under = o.under; stack = o.stack; notes = made; end = end } in
@@ -48,7 +48,7 @@ module _ (image seen : Image) (under' stack' : Place) (fuel : ℕ) (book : Book)
       λ j. record { writable = written j; fixed = kept j; device = queued j; history = record { entries = entries j; room = room j } }
 
 -- the offset of an export that is there
-pub offset_there : (image : Image) (number : ℕ) (export : Export) → slice_get image.exports number ≡ Some export → offset_of image number ≡ export.offset
+pub offset_there : (image : Image) (number : ℕ) (export : Export) → slice_get image.exports number ≡ Some export → export_offset image number ≡ export.offset
 offset_there image number export e = ap (λ o. option_map_or (λ (x : Export). x.offset) o 0) e
 
 -- segments of equal sizes have as many bytes at each place

@@ -17,6 +17,7 @@ use Rattle.adelie.specs.declared.run.TheConstants.{FUEL, SEED}
 use Rattle.adelie.specs.declared.trouble.Trouble.{Trouble}
 use Rattle.adelie.specs.declared.trouble.Trouble.TheVariants.{Usage, BadScript, Form, NoExport, Read, TooLarge, Write, Memory}
 use Rattle.adelie.specs.Words.{IsSeq}
+use Rattle.adelie.specs.ClearHistory.{RepliesAsReplayed}
 use Rattle.adelie.specs.Opening.{opening}
 use Rattle.adelie.specs.LineRun.{linked_image, outcome}
 use Rattle.adelie.specs.Ledger.{ledger}
@@ -111,11 +112,12 @@ IsTooLarge told words name =
 abbrev pub Asks : Option (List (List ℕ)) → Option (List (List ℕ)) → List (List ℕ) → Type 0
 Asks old new names = IfSome old (λ before. new ≡ Some (before ++ names))
 
--- What a run tells: the book of the module, which turns of the plain machine reach, what came of the
--- moves, and the ledger.
+-- What a run tells: the book of the module, which turns of the plain machine reach, and whose clear calls
+-- reply as the symbolic machine does; what came of the moves; and the ledger.
 pub record IsOutcome (s : Script) (m : Module) (books : List Book) (moves : List Moved) (rows : List Row) : Type 0 where
   pub book : books ≡ (outcome SEED FUEL s m).book ∷ []
   pub lawful : IsLawful (linked_image SEED m) FUEL (outcome SEED FUEL s m).book
+  pub clear : RepliesAsReplayed (linked_image SEED m) FUEL (outcome SEED FUEL s m).book.history.entries
   pub moved : moves ≡ (outcome SEED FUEL s m).moves
   pub mapped : rows ≡ ledger (opening SEED) moves
 

@@ -1,3 +1,4 @@
+pub mod ClearHistory
 pub mod Command
 pub mod Ledger
 pub mod Loaded
@@ -5,6 +6,7 @@ pub mod LineLaws
 pub mod LineRun
 pub mod Opening
 pub mod Reach
+pub mod ReplayExamples
 pub mod Report
 pub mod Run
 pub mod Steps

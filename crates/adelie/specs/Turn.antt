@@ -10,12 +10,12 @@ use Rattle.ad_core.specs.Turn.{plain, fixed_data_of, writable_of}
 use Rattle.adelie.specs.declared.turn.Order.{Order}
 
 -- the offset of an export, by its number
-abbrev pub offset_of : Image → ℕ → ℕ
-offset_of i number = option_map_or (λ (x : Export). x.offset) (slice_get i.exports number) 0
+abbrev pub export_offset : Image → ℕ → ℕ
+export_offset i number = option_map_or (λ (x : Export). x.offset) (slice_get i.exports number) 0
 
 -- the plain machine's call of an order
 unfoldable pub ordered : Image → ℕ → Book → Order → List ℕ → Outcome
-ordered i fuel book o args = plain i fuel book o.under o.stack (offset_of i o.export) args
+ordered i fuel book o args = plain i fuel book o.under o.stack (export_offset i o.export) args
 
 -- the entry of a call that came to this
 abbrev pub entry_of : Order → List ℕ → Outcome → Entry

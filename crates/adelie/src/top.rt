@@ -12,6 +12,7 @@ ghost use Rattle.adelie.specs.Opening.{drawn_stack, opening};
 ghost use Rattle.adelie.specs.Steps.{IsRefusal, IsRunFault, WritesReport};
 ghost use Rattle.adelie.specs.Command.{MayHold, IsTold, IsBadScript, IsBadModule, IsNoExport, IsTooLarge, ReadsAll, AsksNames, CauseOf, Leaves, LeavesAll, LeavesPrefix, Performs, IsOutcome, text_of, first_other, calls_only, Answers, Succeeds, NamesFile, IsRefused};
 
+use crate::laws::law_clear_history;
 use crate::opening::{StackDrawn, draw_stack, load};
 use crate::read::{module_of, script_of};
 use crate::report::report;
@@ -43,7 +44,7 @@ pub struct Ended {
 /// The statuses are those of the faults: 1 where the words aren't of the grammar, 2 where the script
 /// has another form, 3 where the module has, or where a line calls an export that it hasn't, 4 where a
 /// file couldn't be read or has more than 1,048,576 bytes, 5 where the report couldn't be written, 6
-/// where memory was wanting. `law_books` and `law_moves` say what a line run is.
+/// where memory was wanting. `law_books`, `law_moves` and `law_clear_history` say what a line run is.
 pub fn top_still<R: AllocGlobal, F: Files, K: Sink>(
     rt: &R,
     words: &[String],
@@ -221,6 +222,7 @@ fn perform(
     ensures text { IfOk result (λ p. p.text.items ≡ text_of script.now «module») }
     ensures fault { IfErr result (IsRunFault script.now «module») }
 {
+    law_clear_history();
     let steps = script.steps.as_slice();
     let other = first_other(module.name.bytes(), steps);
     let loaded = load(alloc, module, drawn, SEED)?;

@@ -1,0 +1,7 @@
+pub mod Values
+pub mod Parts
+pub mod Lies
+pub mod Fetch
+pub mod Steps
+pub mod Runs
+pub mod Clear

@@ -1,0 +1,82 @@
+-- The operations on values are those on the numbers that the values stand for.
+use Rattle.std.proofs.Common.{◌≡◌, ℕ, ◌+◌, ◌-◌, ◌%◌, ◌^◌, List, map, Bool, true, false, Ok, Err, Result, refl, sym, ap, subst, ◌∙◌, add_assoc, add_comm, arith, get_or, set}
+use Rattle.std.specs.Prelude.{◌==◌, if◌then◌else◌}
+use Rattle.std.proofs.Math.ListN.{get_or-map}
+use Rattle.std.proofs.Math.Nat.{add-mod-mod}
+use Rattle.std.proofs.lemmas.List.{map-set}
+use native.Mathlib.Nat.{mod-add-mod}
+use Rattle.ad_base.specs.declared.layout.TheConstants.{FETCH_BYTES}
+use Rattle.ad_isa.specs.Rows.{register, with_register}
+use Rattle.ad_core.specs.Plain.{numbers}
+use Rattle.ad_symbolic.specs.Value.{At, Movable, Num, Part, Stack, Value, even_of, offset_of, sum_of, values}
+use Rattle.ad_relate.specs.Stands.{Places, base_at, number_at}
+
+-- where there is an answer, the other answer is what it stands for
+abbrev pub Follows : {A B R S : Type 0} → (A → B) → Result A R → Result B S → Type 0
+Follows f (Ok x) found = found ≡ Ok (f x)
+Follows f (Err reason) found = Unit {0}
+
+-- and so the other answer is there too
+pub followed : {A B R S : Type 0} (f : A → B) {found : Result B S} (answer : Result A R) (x : A) → Follows f answer found → answer ≡ Ok x → found ≡ Ok (f x)
+followed f {found} answer x h e = subst (λ a. Follows f a found) e h
+
+-- parts begin at pages
+pub base-page : (ps : Places) (p : Part) → base_at ps p % 4096 ≡ 0
+base-page ps Movable = omega arith
+base-page ps Stack = omega arith
+
+-- a sum from a base is the sum of the numbers
+sum-from : (base o n m : ℕ) → ((base + o) % m + n) % m ≡ (base + (o + n) % m) % m
+sum-from base o n m = mod-add-mod (base + o) m n ∙ ap (λ x. x % m) (add_assoc base o n) ∙ sym (add-mod-mod base (o + n) m)
+
+-- from an even base, bit 0 of an address is that of the offset
+even-from : (base o : ℕ) → base % 4096 ≡ 0 → (base + o) % 2 ^ 64 - (base + o) % 2 ^ 64 % 2 ≡ (base + (o - o % 2)) % 2 ^ 64
+even-from base o page = omega arith
+
+-- from a page on, an address is aligned where the offset is
+aligned-from : (base o : ℕ) → base % 4096 ≡ 0 → (base + o) % 2 ^ 64 % 4 ≡ o % 4
+aligned-from base o page = omega arith
+
+-- a sum stands for the sum
+pub sum-follows : (ps : Places) (a b : Value) (x y : ℕ) → x ≡ number_at ps a → y ≡ number_at ps b
+    → Follows {S = ⊥} (number_at ps) (sum_of a b) (Ok ((x + y) % 2 ^ 64))
+sum-follows ps (Num a) (Num b) x y e h = λ j. Ok ((e j + h j) % 2 ^ 64)
+sum-follows ps (At p o) (Num n) x y e h = (λ j. Ok ((e j + h j) % 2 ^ 64)) ∙ ap Ok (sum-from (base_at ps p) o n (2 ^ 64))
+sum-follows ps (Num n) (At p o) x y e h =
+    (λ j. Ok ((e j + h j) % 2 ^ 64)) ∙ ap (λ s. Ok (s % 2 ^ 64)) (add_comm n (number_at ps (At p o))) ∙ ap Ok (sum-from (base_at ps p) o n (2 ^ 64))
+sum-follows ps (At p o) (At q u) x y e h = tt
+
+-- the value with bit 0 cleared stands for the number with bit 0 cleared
+pub even-follows : (ps : Places) (a : Value) (x : ℕ) → x ≡ number_at ps a → Follows {S = ⊥} (number_at ps) (even_of a) (Ok (x - x % 2))
+even-follows ps (Num a) x e = λ j. Ok (e j - e j % 2)
+even-follows ps (At p o) x e = (λ j. Ok (e j - e j % 2)) ∙ ap Ok (even-from (base_at ps p) o (base-page ps p))
+
+-- an offset is aligned where the address is
+pub alignment : (ps : Places) (v : Value) → number_at ps v % FETCH_BYTES ≡ offset_of v % FETCH_BYTES
+alignment ps (Num n) = refl
+alignment ps (At p o) = aligned-from (base_at ps p) o (base-page ps p)
+
+pub sum-stands : (ps : Places) (a b v : Value) → sum_of a b ≡ Ok v → number_at ps v ≡ (number_at ps a + number_at ps b) % 2 ^ 64
+sum-stands ps a b v e =
+    let same = followed (number_at ps) (sum_of a b) v (sum-follows ps a b (number_at ps a) (number_at ps b) refl refl) e in
+    cc same
+
+pub even-stands : (ps : Places) (a v : Value) → even_of a ≡ Ok v → number_at ps v ≡ number_at ps a - number_at ps a % 2
+even-stands ps a v e =
+    let same = followed (number_at ps) (even_of a) v (even-follows ps a (number_at ps a) refl) e in
+    cc same
+
+-- what stands for a choice
+if-apart : {A B : Type 0} (f : A → B) (b : Bool) (x y : A) → f (if b then x else y) ≡ (if b then f x else f y)
+if-apart f true x y = refl
+if-apart f false x y = refl
+
+-- a register
+pub register-at : (ps : Places) (xs : List Value) (r : ℕ) → register numbers (map (number_at ps) xs) r ≡ number_at ps (register values xs r)
+register-at ps xs r =
+    ap (λ n. if r == 0 then 0 else n) (get_or-map (number_at ps) xs r (Num 0)) ∙ sym (if-apart (number_at ps) (r == 0) (Num 0) (get_or xs r (Num 0)))
+
+-- the registers once one has got a value
+pub with_register-at : (ps : Places) (xs : List Value) (r : ℕ) (v : Value) → with_register numbers (map (number_at ps) xs) r (number_at ps v) ≡ map (number_at ps) (with_register values xs r v)
+with_register-at ps xs r v =
+    ap (λ ys. if r == 0 then map (number_at ps) xs else ys) (sym (map-set (number_at ps) xs r v)) ∙ sym (if-apart (map (number_at ps)) (r == 0) xs (set xs r v))

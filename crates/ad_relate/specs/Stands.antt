@@ -1,0 +1,53 @@
+-- What the symbolic machine's values and memory stand for, once the movable part and the stack have places.
+use Rattle.std.specs.Prelude.{◌≡◌, ◌≢◌, ℕ, ◌+◌, ◌*◌, ◌%◌, ◌^◌, List, length, map, slice_index}
+use Rattle.byteorder.specs.Endian.{little_bytes}
+use Rattle.ad_base.specs.declared.image.Image.{Image}
+use Rattle.ad_base.specs.declared.layout.TheConstants.{PAGE_BYTES, STACK_PAGES}
+use Rattle.ad_base.specs.declared.place.Place.{Place}
+use Rattle.ad_base.specs.Image.{IsWhole, movable_pages}
+use Rattle.ad_base.specs.Place.{base_of, IsModulePlace, IsPlace}
+use Rattle.ad_core.specs.Segments.{Segment}
+use Rattle.ad_core.specs.Image.{segments_of}
+use Rattle.ad_symbolic.specs.Value.{At, Byte, Movable, Num, Number, OfAddress, Part, Stack, Value}
+use Rattle.ad_symbolic.specs.Access.{Reach}
+
+-- where the movable part and the stack lie
+pub record Places : Type 0 where
+  pub movable : Place
+  pub stack : Place
+
+abbrev pub base_at : Places → Part → ℕ
+base_at ps Movable = base_of ps.movable
+base_at ps Stack = base_of ps.stack
+
+-- the number that a value stands for
+abbrev pub number_at : Places → Value → ℕ
+number_at ps (Num n) = n
+number_at ps (At p o) = (base_at ps p + o) % 2 ^ 64
+
+-- the number that a byte stands for
+abbrev pub byte_at : Places → Byte → ℕ
+byte_at ps (Number n) = n
+byte_at ps (OfAddress i p o) = slice_index (little_bytes 8 ((base_at ps p + o) % 2 ^ 64)) i
+
+-- the segments that a reach stands for
+abbrev pub segments_at : Places → Reach → List Segment
+segments_at ps r = segments_of r.image ps.movable ps.stack (map (byte_at ps) r.stack) (map (byte_at ps) r.fixed) (map (byte_at ps) r.writable)
+
+-- The image is whole, the movable part and the stack have places of their pages, and these two and the
+-- immovable part lie in different regions.
+pub record IsApart (i : Image) (ps : Places) : Type 0 where
+  pub whole : IsWhole i
+  pub movable : IsModulePlace ps.movable
+  pub movable_size : ps.movable.pages ≡ movable_pages i
+  pub stack : IsPlace ps.stack
+  pub stack_size : ps.stack.pages ≡ STACK_PAGES
+  pub movable_stack : ps.movable.region ≢ ps.stack.region
+  pub movable_fixed : ps.movable.region ≢ i.fixed.region
+  pub stack_fixed : ps.stack.region ≢ i.fixed.region
+
+-- data and stack are as long as their pages
+pub record Fits (r : Reach) : Type 0 where
+  pub writable : length r.writable ≡ r.image.data_pages * PAGE_BYTES
+  pub fixed : length r.fixed ≡ r.image.fixed_data_pages * PAGE_BYTES
+  pub stack : length r.stack ≡ STACK_PAGES * PAGE_BYTES

@@ -1,0 +1,7 @@
+//! The symbolic machine: what a call does, wherever its movable part and its stack lie. Definitions, and worked
+//! examples of them.
+#![tactic(auto)]
+
+mod laws;
+
+pub use laws::{law_worked_fetches, law_worked_keeps, law_worked_values};
