@@ -1,2 +1,4 @@
+pub mod Lists
 pub mod Ring
 pub mod Taken
+pub mod Zeros

@@ -1,6 +1,6 @@
 -- Which images are whole, and the zero bytes that fill up their pages.
 use Rattle.std.specs.Prelude.{◌≡◌, ℕ, ◌+◌, ◌*◌, ◌≤◌, List, length, replicate}
-use Rattle.ad_base.specs.declared.layout.TheConstants.{PAGE_BYTES, PART_PAGES, LOCAL_WORDS, TABLE_WORDS}
+use Rattle.ad_base.specs.declared.layout.TheConstants.{LOCAL_PAGES, LOCAL_WORDS, PAGE_BYTES, PART_PAGES, STUB_PAGES, TABLE_PAGES, TABLE_WORDS}
 use Rattle.ad_base.specs.declared.image.Image.{Image}
 use Rattle.ad_base.specs.Place.{IsModulePlace}
 
@@ -8,20 +8,20 @@ use Rattle.ad_base.specs.Place.{IsModulePlace}
 unfoldable pub zeros : ℕ → List ℕ
 zeros n = replicate n 0
 
--- text, the stub page, read-only data, the fixed table, the local area, writable data
+-- text, stubs, read-only data, the fixed table, the local area, writable data
 abbrev pub movable_pages : Image → ℕ
-movable_pages i = i.text_pages + 1 + i.read_pages + 1 + 1 + i.data_pages
+movable_pages i = i.text_pages + STUB_PAGES + i.read_pages + TABLE_PAGES + LOCAL_PAGES + i.data_pages
 
--- text, the stub page, read-only data, the fixed table, writable data
+-- text, stubs, read-only data, the fixed table, writable data
 abbrev pub fixed_pages : Image → ℕ
-fixed_pages i = i.fixed_text_pages + 1 + i.fixed_read_pages + 1 + i.fixed_data_pages
+fixed_pages i = i.fixed_text_pages + STUB_PAGES + i.fixed_read_pages + TABLE_PAGES + i.fixed_data_pages
 
 -- Each list of bytes fills its pages, no part and no table is too long, and the immovable part has a
 -- place of its pages among those for modules.
 pub record IsWhole (i : Image) : Type 0 where
-  pub code : length i.code ≡ (i.text_pages + 1 + i.read_pages) * PAGE_BYTES
+  pub code : length i.code ≡ (i.text_pages + STUB_PAGES + i.read_pages) * PAGE_BYTES
   pub writable : length i.writable ≡ i.data_pages * PAGE_BYTES
-  pub fixed_code : length i.fixed_code ≡ (i.fixed_text_pages + 1 + i.fixed_read_pages) * PAGE_BYTES
+  pub fixed_code : length i.fixed_code ≡ (i.fixed_text_pages + STUB_PAGES + i.fixed_read_pages) * PAGE_BYTES
   pub fixed_data : length i.fixed_data ≡ i.fixed_data_pages * PAGE_BYTES
   pub movable_pages_fit : movable_pages i ≤ PART_PAGES
   pub fixed_pages_fit : fixed_pages i ≤ PART_PAGES

@@ -1,7 +1,9 @@
+pub mod Book
 pub mod End
 pub mod ExportName
 pub mod History
 pub mod Image
+pub mod Ledger
 pub mod Memory
 pub mod Outside
 pub mod Place

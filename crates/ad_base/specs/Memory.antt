@@ -34,13 +34,6 @@ FetchAnswers m name (Err Failed) = FetchFails m name
 FetchAnswers m name (Err TooLarge) = (¬ FetchFails m name) × IfSome (bytes_of m.files name) (λ file. FILE_BYTES < length file)
 FetchAnswers m name (Err OutOfMemory) = Unit {0}
 
--- how many calls there were once a fetch gave its answer: want of memory counts for none
-abbrev pub calls_after : {T : Type 0} → Result T Fetch → ℕ → ℕ
-calls_after (Ok x) calls = risen calls
-calls_after (Err Failed) calls = risen calls
-calls_after (Err TooLarge) calls = risen calls
-calls_after (Err OutOfMemory) calls = calls
-
 -- how many faults there were once a fetch gave its answer
 abbrev pub faults_after : {T : Type 0} → Result T Fetch → ℕ → ℕ
 faults_after (Ok x) faults = faults
@@ -52,7 +45,7 @@ faults_after (Err OutOfMemory) faults = faults
 abbrev pub after_fetch : {T : Type 0} → FilesInMemory → Result T Fetch → List ℕ → FilesInMemory
 after_fetch m answer name = record m {
   asked = asked_after answer m.asked name;
-  calls = calls_after answer m.calls;
+  calls = risen m.calls;
   faults = faults_after answer m.faults;
 }
 

@@ -3,6 +3,16 @@ use Rattle.std.specs.Prelude.{◌≡◌, ℕ, ◌+◌, ◌^◌, ◌<◌, ◌⊎�
 use Rattle.ad_base.specs.declared.files.Fetch.{Fetch}
 use Rattle.ad_base.specs.declared.files.Fetch.TheVariants.{Failed, TooLarge, OutOfMemory}
 
+-- the bytes of each name, where they are told
+abbrev pub Told : Type 0
+Told = List ℕ → Option (List ℕ)
+
+-- files, as far as they are told: the bytes of each name, the names asked for so far, and how many faults there were
+pub record Outside : Type 0 where
+  pub told : Told
+  pub asked : Option (List (List ℕ))
+  pub faults : ℕ
+
 -- a count of faults rose, or stands at the end of its type
 abbrev pub Rose : ℕ → ℕ → Type 0
 Rose old new = (old < new) ⊎ (new + 1 ≡ 2 ^ 64)

@@ -5,9 +5,10 @@ ghost use Rattle.ad_base.specs.declared.place.Place.{Place};
 ghost use Rattle.ad_base.specs.Place.{base_of, packed, IsPlace};
 
 use crate::layout::{
-    FETCH_BYTES, FILE_BYTES, FRAMES, GATE, INSTRUCTION_BYTES, LOCAL_WORDS, MAPPINGS, MODULE_REGION,
-    MODULE_REGIONS, PAGE_BYTES, PART_PAGES, REGION_BYTES, REGION_PAGES, REGIONS, STACK_PAGES,
-    STACK_REGION, STACK_REGIONS, TABLE_WORDS,
+    FETCH_BYTES, FILE_BYTES, FRAMES, GATE, INSTRUCTION_BYTES, LOCAL_PAGES, LOCAL_WORDS, MAPPINGS,
+    MODULE_REGION, MODULE_REGIONS, MODULES, PAGE_BYTES, PART_PAGES, REGION_BYTES, REGION_PAGES,
+    REGIONS, STACK_PAGES, STACK_REGION, STACK_REGIONS, STUB_PAGES, TABLE_PAGES, TABLE_WORDS,
+    WORD_BYTES, WORKERS,
 };
 
 /// The numbers of the address layout.
@@ -22,13 +23,19 @@ pub fn law_layout()
     ensures stack_regions { STACK_REGION + STACK_REGIONS ≡ REGIONS }
     ensures mappings { MAPPINGS ≡ 4095 }
     ensures frames { FRAMES ≡ 256 }
+    ensures modules { MODULES ≡ 8 }
+    ensures workers { WORKERS ≡ 64 }
     ensures gate { GATE ≡ REGION_BYTES }
     ensures fetch { FETCH_BYTES ≡ 4 }
     ensures instruction { INSTRUCTION_BYTES ≡ 4 }
     ensures part { PART_PAGES ≡ 62 }
     ensures stack { STACK_PAGES ≡ 4 }
+    ensures word { WORD_BYTES ≡ 8 }
+    ensures stubs { STUB_PAGES ≡ 1 }
     ensures local { LOCAL_WORDS ≡ 512 }
+    ensures local_fills { LOCAL_WORDS * WORD_BYTES ≡ LOCAL_PAGES * PAGE_BYTES }
     ensures table { TABLE_WORDS ≡ 256 }
+    ensures table_fits { TABLE_WORDS * WORD_BYTES ≤ TABLE_PAGES * PAGE_BYTES }
     ensures file { FILE_BYTES ≡ 1048576 }
 {}
 

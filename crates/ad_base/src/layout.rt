@@ -41,13 +41,31 @@ pub const MAPPINGS: u64 = 4_095;
 /// Table frames: a place's frame is below this number.
 pub const FRAMES: u64 = 256;
 
+/// Modules of a run at most.
+pub const MODULES: u64 = 8;
+
+/// Workers of a run at most.
+pub const WORKERS: u64 = 64;
+
 /// Pages that a part of a module has at most.
 pub const PART_PAGES: u16 = 62;
 
 /// Pages of a stack.
 pub const STACK_PAGES: u16 = 4;
 
-/// Words of a local area, and so of the page that holds them, at most.
+/// Bytes of a word.
+pub const WORD_BYTES: u64 = 8;
+
+/// Pages of the stubs of a part.
+pub const STUB_PAGES: u16 = 1;
+
+/// Pages of a fixed table.
+pub const TABLE_PAGES: u16 = 1;
+
+/// Pages of a local area.
+pub const LOCAL_PAGES: u16 = 1;
+
+/// Words of a local area, and so of its pages, at most.
 pub const LOCAL_WORDS: u64 = 512;
 
 /// Words of a fixed table at most.

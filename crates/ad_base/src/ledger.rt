@@ -39,10 +39,27 @@ pub enum MoveEnd {
     Spent,
 }
 
+impl MoveEnd {
+    ghost use Rattle.std.specs.Prelude.{◌≡◌};
+    ghost use Rattle.ad_base.specs.Ledger.{made_place};
+
+    /// The new place, where one was made.
+    pub fn place(self) -> Option<Place>
+        ensures { result ≡ made_place self }
+    {
+        match self {
+            MoveEnd::Made(place) => Some(place),
+            MoveEnd::Busy(_) | MoveEnd::Spent => None,
+        }
+    }
+}
+
 /// A module of a move line, or a stack line, with what came of it.
 #[derive(Clone, Copy, Debug, PartialEq, Eq)]
 pub struct Moved {
     pub line: u64,
+    /// What was to be moved: the movable part of a module, or the stack of a worker.
+    pub kind: Kind,
     /// The number of the module, or of the worker.
     pub who: u64,
     pub end: MoveEnd,

@@ -1,9 +1,10 @@
 //! Files in memory, for tests.
 
-ghost use Rattle.std.specs.Prelude.{◌≡◌, ◌++◌, [], OnOk, IfSome, option_copied, find, bytes_eq};
+ghost use Rattle.std.specs.Prelude.{◌≡◌, ◌++◌, ◌∷◌, [], OnOk, OnErr, IfSome, option_copied, find, bytes_eq};
 
 use crate::files::{Fetch, Files};
 use crate::layout::FILE_BYTES;
+use crate::memory::OutOfMemory;
 use crate::name::Name;
 use crate::numbers::has_number;
 use crate::sequence::Sequence;
@@ -70,34 +71,28 @@ impl MemFiles {
 }
 
 impl Files for MemFiles {
-    ghost use Rattle.std.specs.Prelude.{◌≡◌, ◌≤◌, ◌<◌, ◌++◌, length, List, ℕ, Some, Err, OnOk, IfSome};
+    ghost use Rattle.std.specs.Prelude.{◌≡◌, ◌≢◌, ◌≤◌, ◌<◌, ◌++◌, length, List, ℕ, Some, Err, OnOk, IfSome};
     ghost use Rattle.ad_base.specs.Outside.{Rose, Tells, asked_after};
     ghost use Rattle.ad_base.specs.Memory.{FetchAnswers, after_fetch, bytes_of};
 
-    ghost bytes = { λ m name. bytes_of m.files name };
-
-    ghost asked = { λ m. Some m.asked };
-
-    ghost faults = { λ m. m.faults };
+    ghost outside = { λ m. record { told = bytes_of m.files; asked = Some m.asked; faults = m.faults } };
 
     fn fetch(&mut self, alloc: Global, name: &str, into: &mut Vec<u8>) -> Result<(), Fetch>
         ensures answers { FetchAnswers self.old name.now result }
         ensures after { self.new ≡ after_fetch self.old result name.now }
         ensures whole { OnOk result ((file : List ℕ) × Tells (bytes_of self.old.files name.now) file
             × (length file ≤ FILE_BYTES) × (into.new.items ≡ into.old.items ++ file)) }
-        ensures failed { result ≡ Err Fetch.Failed → Rose self.old.faults self.new.faults }
         ensures too_large { result ≡ Err Fetch.TooLarge
             → IfSome (bytes_of self.old.files name.now) (λ file. FILE_BYTES < length file) }
+        ensures failed { result ≡ Err Fetch.Failed → Rose self.old.faults self.new.faults }
+        ensures no_fault { result ≢ Err Fetch.Failed → self.new.faults ≡ self.old.faults }
+        ensures counts { self.old.faults ≤ self.new.faults }
         ensures asked { IfSome (Some self.old.asked)
             (λ names. Some self.new.asked ≡ Some (asked_after result names name.now)) }
-        ensures same { (other : List ℕ) → bytes_of self.new.files other ≡ bytes_of self.old.files other }
-        ensures counts { self.old.faults ≤ self.new.faults }
-        ensures counts_failures { (result ≡ Err Fetch.Failed → ⊥) → self.new.faults ≡ self.old.faults }
+        ensures same { bytes_of self.new.files ≡ bytes_of self.old.files }
     {
-        match self.answer(name, into) {
-            Err(Fetch::OutOfMemory) => Err(Fetch::OutOfMemory),
-            answer => self.note(alloc, name, answer),
-        }
+        let answer = self.answer(name, into);
+        self.count(alloc, name, answer)
     }
 }
 
@@ -127,24 +122,30 @@ impl MemFiles {
         Ok(())
     }
 
-    /// Counts a call that has an answer, and keeps the name asked for.
-    fn note(&mut self, alloc: Global, name: &str, answer: Result<(), Fetch>) -> Result<(), Fetch>
-        requires { answer ≢ Err Fetch.OutOfMemory }
+    /// Counts a call, and keeps the name asked for where there is memory.
+    fn count(&mut self, alloc: Global, name: &str, answer: Result<(), Fetch>) -> Result<(), Fetch>
         ensures answer { (result ≡ answer) ⊎ (result ≡ Err Fetch.OutOfMemory) }
         ensures after { self.new ≡ after_fetch self.old result name.now }
         ensures counts { self.old.faults ≤ self.new.faults }
     {
-        let Ok(asked) = Name::of(alloc, name.as_bytes()) else {
-            return Err(Fetch::OutOfMemory);
-        };
-        if self.asked.push(asked).is_err() {
+        self.calls = self.calls.saturating_add(1);
+        if answer == Err(Fetch::OutOfMemory) || self.keep(alloc, name).is_err() {
             return Err(Fetch::OutOfMemory);
         }
-        self.calls = self.calls.saturating_add(1);
         if answer == Err(Fetch::Failed) {
             self.faults = self.faults.saturating_add(1);
         }
         answer
+    }
+
+    /// Keeps a name that was asked for.
+    fn keep(&mut self, alloc: Global, name: &str) -> Result<(), OutOfMemory>
+        ensures kept { OnOk result (self.new ≡ record self.old { asked = self.old.asked ++ name.now ∷ [] }) }
+        ensures unchanged { OnErr result (self.new ≡ self.old) }
+    {
+        let asked = Name::of(alloc, name.as_bytes())?;
+        self.asked.push(asked)?;
+        Ok(())
     }
 }
 

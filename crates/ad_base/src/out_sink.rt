@@ -1,11 +1,12 @@
 //! A writer of the system as a sink.
 
-ghost use Rattle.std.specs.Prelude.{◌≡◌, None};
+ghost use Rattle.std.specs.Prelude.{◌≡◌};
 
 use crate::sink::{Failed, Sink};
 use std::io;
 
-/// A writer, such as standard output. What it takes is told to nobody.
+/// A writer, such as standard output. It tells as taken what its writer tells as its contents; of
+/// standard output nothing is told.
 #[derive(Debug, Drop)]
 pub struct OutSink<W> {
     writer: W,
@@ -15,14 +16,15 @@ pub struct OutSink<W> {
 impl<W: io::Write> OutSink<W> {
     /// A sink that writes here, with no fault so far.
     pub fn new(writer: W) -> OutSink<W>
-        ensures { ⟦<OutSink<W> as Sink>⟧.faults result ≡ 0 }
+        ensures taken { ⟦<OutSink<W> as Sink>⟧.taken result ≡ W.contents writer }
+        ensures faults { ⟦<OutSink<W> as Sink>⟧.faults result ≡ 0 }
     {
         OutSink { writer, faults: 0 }
     }
 }
 
 impl<W: io::Write> Sink for OutSink<W> {
-    ghost taken = { λ _. None };
+    ghost taken = { λ s. W.contents s.writer };
 
     ghost faults = { λ s. s.faults };
 

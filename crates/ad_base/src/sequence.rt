@@ -1,8 +1,9 @@
 //! A list of any length, which contracts see as the list of its items.
 
-ghost use Rattle.std.specs.Prelude.{◌≡◌, length};
+ghost use Rattle.std.specs.Prelude.{◌≡◌, [], length};
 
 use std::marker::Model;
+use std::mem;
 
 /// A list that holds its items on the heap. It is made from a `Vec`, and gives it back, without
 /// taking memory.
@@ -32,6 +33,17 @@ impl<T> Sequence<T> {
         ensures { result.items ≡ self }
     {
         self.items
+    }
+
+    /// Takes the items out, and leaves the empty list. It takes no memory.
+    pub fn take(&mut self) -> Sequence<T>
+        ensures taken { result ≡ self.old }
+        ensures empty { self.new ≡ [] }
+    {
+        let empty = Vec::new(*self.items.allocator());
+        Sequence {
+            items: mem::replace(&mut self.items, empty),
+        }
     }
 
     /// How many items there are.

@@ -3,4 +3,5 @@
 mod lists;
 mod outside;
 mod places;
+mod system;
 mod text;

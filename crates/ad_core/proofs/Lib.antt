@@ -1,3 +1,4 @@
+pub mod Pages
 pub mod Registers
 pub mod Runs
 pub mod Sizes

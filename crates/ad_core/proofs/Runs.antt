@@ -6,9 +6,9 @@ use Rattle.ad_base.specs.declared.layout.TheConstants.{GATE}
 use Rattle.ad_base.specs.declared.end.End.{End}
 use Rattle.ad_base.specs.declared.end.End.TheVariants.{Returned, Fuel}
 use Rattle.ad_isa.specs.Step.{State, Goes, Ends}
-use Rattle.ad_core.specs.Segments.{Segment, Touch}
+use Rattle.ad_core.specs.Segments.{Segment, Access}
 use Rattle.ad_core.specs.Plain.{Memory, Outcome, run, continue, plain_step}
-use Rattle.ad_core.specs.Code.{Comes, state_of, next_of}
+use Rattle.ad_core.specs.Code.{RunsTo, state_of, next_of}
 use Rattle.ad_core.specs.declared.hart.Hart.{Hart}
 
 -- at the gate a run has ended, whatever fuel is left
@@ -31,55 +31,55 @@ unfolding run
 run_step fuel h m away = grind (arith, nat_tests)
 
 -- a memory by its parts
-abbrev pub parts : List Segment → List ℕ → List ℕ → List Touch → Memory
-parts segments notes queue touched = record { segments = segments; notes = notes; queue = queue; touched = touched }
+abbrev pub parts : List Segment → List ℕ → List ℕ → List Access → Memory
+parts segments notes queue accesses = record { segments = segments; notes = notes; queue = queue; accesses = accesses }
 
 -- the parts of an outcome that is known
-Comes_from : {T : Type 0} (segments : List Segment) (notes queue : List ℕ) (touched : List Touch)
-    (track : T) (rule : T → Touch → T) (before : T) (answer : End) (outcome : Outcome)
-    → record { end = answer; memory = parts segments notes queue touched } ≡ outcome
-    → track ≡ fold rule before touched
-    → Comes segments notes queue track rule before answer outcome
-Comes_from segments notes queue touched track rule before answer outcome e t = record {
+RunsTo_from : {T : Type 0} (segments : List Segment) (notes queue : List ℕ) (accesses : List Access)
+    (track : T) (rule : T → Access → T) (before : T) (answer : End) (outcome : Outcome)
+    → record { end = answer; memory = parts segments notes queue accesses } ≡ outcome
+    → track ≡ fold rule before accesses
+    → RunsTo segments notes queue track rule before answer outcome
+RunsTo_from segments notes queue accesses track rule before answer outcome e t = record {
   end = ap (λ (o : Outcome). o.end) e;
   segments = ap (λ (o : Outcome). o.memory.segments) e;
   notes = ap (λ (o : Outcome). o.memory.notes) e;
   queue = ap (λ (o : Outcome). o.memory.queue) e;
-  track = t ∙ ap (λ (o : Outcome). fold rule before o.memory.touched) e;
+  track = t ∙ ap (λ (o : Outcome). fold rule before o.memory.accesses) e;
 }
 
-module _ {T : Type 0} (segments : List Segment) (notes queue : List ℕ) (touched : List Touch)
-    (track : T) (rule : T → Touch → T) (before : T) (left : ℕ) (h : State ℕ) (outcome : Outcome) where
+module _ {T : Type 0} (segments : List Segment) (notes queue : List ℕ) (accesses : List Access)
+    (track : T) (rule : T → Access → T) (before : T) (left : ℕ) (h : State ℕ) (outcome : Outcome) where
   -- what a run that has reached the gate comes to
-  pub comes_at_gate : (a : ℕ) → h.pc ≡ GATE → a ≡ slice_index h.registers 10
-      → track ≡ fold rule before touched
-      → run left h (parts segments notes queue touched) ≡ outcome
-      → Comes segments notes queue track rule before (Returned a) outcome
-  comes_at_gate a e r t o =
-      let m = parts segments notes queue touched in
-      Comes_from segments notes queue touched track rule before (Returned a) outcome
+  pub runs_to_gate : (a : ℕ) → h.pc ≡ GATE → a ≡ slice_index h.registers 10
+      → track ≡ fold rule before accesses
+      → run left h (parts segments notes queue accesses) ≡ outcome
+      → RunsTo segments notes queue track rule before (Returned a) outcome
+  runs_to_gate a e r t o =
+      let m = parts segments notes queue accesses in
+      RunsTo_from segments notes queue accesses track rule before (Returned a) outcome
       (ap (λ x. record { end = Returned x; memory = m }) r ∙ (sym (run_at_gate left h m e) ∙ o)) t
 
   -- what a run comes to whose fuel is spent
   pub comes_spent : left ≡ 0 → (h.pc ≡ GATE → ⊥)
-      → track ≡ fold rule before touched
-      → run left h (parts segments notes queue touched) ≡ outcome
-      → Comes segments notes queue track rule before Fuel outcome
+      → track ≡ fold rule before accesses
+      → run left h (parts segments notes queue accesses) ≡ outcome
+      → RunsTo segments notes queue track rule before Fuel outcome
   comes_spent z away t o =
-      let m = parts segments notes queue touched in
-      Comes_from segments notes queue touched track rule before Fuel outcome
+      let m = parts segments notes queue accesses in
+      RunsTo_from segments notes queue accesses track rule before Fuel outcome
       (sym (run_spent h m away) ∙ (ap (λ n. run n h m) (sym z) ∙ o)) t
 
   -- what a run comes to whose next step ends the call
   pub comes_ended : (m : Memory) (answer : End) (n i : ℕ) → i < n → left ≡ n - i
       → (h.pc ≡ GATE → ⊥)
-      → plain_step h m ≡ Ends answer (parts segments notes queue touched)
-      → track ≡ fold rule before touched
+      → plain_step h m ≡ Ends answer (parts segments notes queue accesses)
+      → track ≡ fold rule before accesses
       → run left h m ≡ outcome
-      → Comes segments notes queue track rule before answer outcome
+      → RunsTo segments notes queue track rule before answer outcome
   comes_ended m answer n i below l away e t o =
       let l' : left ≡ suc (n - (i + 1)) = omega arith in
-      Comes_from segments notes queue touched track rule before answer outcome
+      RunsTo_from segments notes queue accesses track rule before answer outcome
       (sym (ap (λ k. run k h m) l' ∙ (run_step (n - (i + 1)) h m away ∙ ap (continue (run (n - (i + 1)))) e)) ∙ o) t
 
 -- a run goes on from where its next step leads
@@ -95,7 +95,7 @@ run_goes n i h m m' hart answer outcome below away e none o =
     sym (ap (λ k. run k h m) left ∙ (run_step fuel h m away ∙ ap (continue (run fuel)) goes)) ∙ o
 
 -- a track over the accesses of one more step
-pub track_on : {T : Type 0} (rule : T → Touch → T) (before : T) (touched more : List Touch) (track after : T)
-    → track ≡ fold rule before touched → after ≡ fold rule track more
-    → after ≡ fold rule before (touched ++ more)
-track_on rule before touched more track after t a = a ∙ (ap (λ x. fold rule x more) t ∙ sym (fold-append rule before touched more))
+pub track_on : {T : Type 0} (rule : T → Access → T) (before : T) (accesses more : List Access) (track after : T)
+    → track ≡ fold rule before accesses → after ≡ fold rule track more
+    → after ≡ fold rule before (accesses ++ more)
+track_on rule before accesses more track after t a = a ∙ (ap (λ x. fold rule x more) t ∙ sym (fold-append rule before accesses more))

@@ -2,7 +2,7 @@
 use Rattle.std.specs.Prelude.{◌≡◌, ℕ, List, fold, Option, Some, None}
 use Rattle.ad_base.specs.declared.end.End.{End}
 use Rattle.ad_isa.specs.Step.{State, Next, Goes, Ends}
-use Rattle.ad_core.specs.Segments.{Segment, Touch}
+use Rattle.ad_core.specs.Segments.{Segment, Access}
 use Rattle.ad_core.specs.Plain.{Outcome}
 use Rattle.ad_core.specs.declared.hart.Hart.{Hart}
 
@@ -15,9 +15,9 @@ next_of None h m = Goes (state_of h) m
 next_of (Some end) h m = Ends end m
 
 -- what a run of the code came to is this outcome, and its track is what the rule makes of the accesses
-pub record Comes {T : Type 0} (now : List Segment) (made waiting : List ℕ) (kept : T) (rule : T → Touch → T) (before : T) (answer : End) (outcome : Outcome) : Type 0 where
+pub record RunsTo {T : Type 0} (now : List Segment) (made waiting : List ℕ) (kept : T) (rule : T → Access → T) (before : T) (answer : End) (outcome : Outcome) : Type 0 where
   pub end : answer ≡ outcome.end
   pub segments : now ≡ outcome.memory.segments
   pub notes : made ≡ outcome.memory.notes
   pub queue : waiting ≡ outcome.memory.queue
-  pub track : kept ≡ fold rule before outcome.memory.touched
+  pub track : kept ≡ fold rule before outcome.memory.accesses

@@ -7,7 +7,7 @@ use Rattle.ad_isa.specs.Domain.{Domain}
 use Rattle.ad_isa.specs.Step.{State, Storage, Next, Goes, Ends, step}
 use Rattle.ad_core.specs.declared.bus.Fetched.{Fetched}
 use Rattle.ad_core.specs.declared.bus.Fetched.TheVariants.{Word, Gate, Fault, Denied}
-use Rattle.ad_core.specs.Segments.{Segment, Touch, fetched, touches_of_fetch}
+use Rattle.ad_core.specs.Segments.{Segment, Access, fetched, accesses_of_fetch}
 
 -- the numbers modulo 2^64, whose operations always answer
 abbrev pub numbers : Domain ℕ ⊥
@@ -24,7 +24,7 @@ pub record Memory : Type 0 where
   pub segments : List Segment
   pub notes : List ℕ
   pub queue : List ℕ
-  pub touched : List Touch
+  pub accesses : List Access
 
 -- the word that was found, or how the call ends where there is none; a run returns at the gate, so a step never
 -- fetches there
@@ -36,7 +36,7 @@ word_or_end Denied = Err ends.Denied
 
 abbrev pub segments_storage : Storage ℕ Memory ⊥
 segments_storage = record {
-  fetch = λ m at. Ok (word_or_end (fetched m.segments at), record m { touched = m.touched ++ touches_of_fetch at });
+  fetch = λ m at. Ok (word_or_end (fetched m.segments at), record m { accesses = m.accesses ++ accesses_of_fetch at });
 }
 
 -- an answer for which there is no reason to be missing
@@ -80,4 +80,4 @@ plain_call fuel entry args sp m =
 
 -- what a call finds: no access so far
 abbrev pub at_start : List Segment → List ℕ → List ℕ → Memory
-at_start segments notes queue = record { segments = segments; notes = notes; queue = queue; touched = [] }
+at_start segments notes queue = record { segments = segments; notes = notes; queue = queue; accesses = [] }

@@ -1,7 +1,7 @@
 //! What a machine reaches of memory.
 
 ghost use Rattle.std.specs.Prelude.{◌≡◌, ◌%◌, ℕ, List};
-ghost use Rattle.ad_core.specs.Segments.{Segment, Touch, fetched, track_after_fetch};
+ghost use Rattle.ad_core.specs.Segments.{Segment, Access, fetched, track_after_fetch};
 
 use ad_base::FETCH_BYTES;
 
@@ -36,7 +36,7 @@ pub trait Bus {
     ghost track: { Self → Self.Track };
 
     /// What is kept once there was one more access.
-    ghost rule: { Self.Track → Touch → Self.Track };
+    ghost rule: { Self.Track → Access → Self.Track };
 
     /// Fetches a word of four bytes.
     fn fetch(&mut self, at: u64) -> Fetched

@@ -1,11 +1,11 @@
 //! Worked examples of the plain machine. Each function makes no call: its contract is the example.
 
 ghost use Rattle.std.specs.Prelude.{◌≡◌, ℕ, List, [], ◌∷◌};
-ghost use Rattle.ad_core.specs.Segments.{sizes};
+ghost use Rattle.ad_core.specs.Segments.{bytes_of_role, is_data, is_fixed_data, sizes};
 ghost use Rattle.ad_core.specs.Plain.{Memory, plain_call};
 ghost use Rattle.ad_core.specs.Examples.{code_at, constants_at};
-ghost use Rattle.ad_core.specs.Turn.{bytes_at, reached};
-ghost use Rattle.ad_base.specs.declared.book.Book.{Book};
+ghost use Rattle.ad_core.specs.Turn.{reached};
+ghost use Rattle.ad_base.specs.Book.{Contents};
 ghost use Rattle.ad_base.specs.declared.image.Image.{Image};
 ghost use Rattle.ad_base.specs.declared.place.Place.{Place};
 
@@ -63,10 +63,10 @@ pub fn law_worked_calls()
         ≡ End.Returned 0xff000 }
 {}
 
-/// Where the data of the parts stands among the segments that a call reaches.
+/// The data of the parts, among the segments that a call reaches.
 pub fn law_data_segments()
-    ensures fixed { (i : Image) (book : Book) (under stack : Place) → bytes_at 4 (reached i book under stack) ≡ book.fixed }
-    ensures writable { (i : Image) (book : Book) (under stack : Place) → bytes_at 9 (reached i book under stack) ≡ book.writable }
+    ensures fixed { (i : Image) (book : Contents) (under stack : Place) → bytes_of_role is_fixed_data (reached i book under stack) ≡ book.fixed }
+    ensures writable { (i : Image) (book : Contents) (under stack : Place) → bytes_of_role is_data (reached i book under stack) ≡ book.writable }
 {}
 
 /// A call leaves each segment as long as it was.

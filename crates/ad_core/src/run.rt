@@ -1,9 +1,9 @@
 //! Calls.
 
 ghost use Rattle.std.specs.Prelude.{◌≡◌, ◌≢◌, ◌%◌, ◌++◌, fold, List, IfNone};
-ghost use Rattle.ad_core.specs.Segments.{Touch, touches_of_fetch, track_after_fetch};
+ghost use Rattle.ad_core.specs.Segments.{Access, accesses_of_fetch, track_after_fetch};
 ghost use Rattle.ad_core.specs.Plain.{plain_step, plain_call, run, at_start};
-ghost use Rattle.ad_core.specs.Code.{state_of, next_of, Comes};
+ghost use Rattle.ad_core.specs.Code.{state_of, next_of, RunsTo};
 
 use crate::bus::{Bus, Fetched};
 use crate::hart::Hart;
@@ -24,7 +24,7 @@ pub fn call<B: Bus>(bus: &mut B, entry: u64, args: &Args, sp: u64, fuel: u64) ->
         (at_start (B.segments bus.old) (B.notes bus.old) (B.queue bus.old))).memory.queue }
     ensures track { B.track bus.new
         ≡ fold B.rule (B.track bus.old) (plain_call fuel entry args.now sp
-        (at_start (B.segments bus.old) (B.notes bus.old) (B.queue bus.old))).memory.touched }
+        (at_start (B.segments bus.old) (B.notes bus.old) (B.queue bus.old))).memory.accesses }
 {
     begin(bus, entry, args, sp, fuel)
 }
@@ -32,7 +32,7 @@ pub fn call<B: Bus>(bus: &mut B, entry: u64, args: &Args, sp: u64, fuel: u64) ->
 /// Begins a call and runs it. Its contract says as one fact what `call` says in several.
 #[tactic(auto, unfolding(crate::specs::Plain::plain_call))]
 fn begin<B: Bus>(bus: &mut B, entry: u64, args: &Args, sp: u64, fuel: u64) -> End
-    ensures { Comes (B.segments bus.new) (B.notes bus.new) (B.queue bus.new)
+    ensures { RunsTo (B.segments bus.new) (B.notes bus.new) (B.queue bus.new)
         (B.track bus.new) B.rule (B.track bus.old) result
         (plain_call fuel entry args.now sp
         (at_start (B.segments bus.old) (B.notes bus.old) (B.queue bus.old))) }
@@ -48,7 +48,7 @@ fn begin<B: Bus>(bus: &mut B, entry: u64, args: &Args, sp: u64, fuel: u64) -> En
 /// step, and once more when the fuel is spent.
 fn run<B: Bus>(bus: &mut B, hart: &mut Hart, fuel: u64) -> End
     requires { hart.old.pc % FETCH_BYTES ≡ 0 }
-    ensures { Comes (B.segments bus.new) (B.notes bus.new) (B.queue bus.new)
+    ensures { RunsTo (B.segments bus.new) (B.notes bus.new) (B.queue bus.new)
         (B.track bus.new) B.rule (B.track bus.old) result
         (run fuel (state_of hart.old)
         (at_start (B.segments bus.old) (B.notes bus.old) (B.queue bus.old))) }
@@ -73,17 +73,17 @@ fn run<B: Bus>(bus: &mut B, hart: &mut Hart, fuel: u64) -> End
 fn step<B: Bus>(bus: &mut B, hart: &mut Hart) -> Option<End>
     requires aligned { hart.old.pc % FETCH_BYTES ≡ 0 }
     requires running { hart.old.pc ≢ GATE }
-    ensures next { (touched : List Touch)
+    ensures next { (accesses : List Access)
         → plain_step (state_of hart.old) (record {
           segments = B.segments bus.old;
           notes = B.notes bus.old;
           queue = B.queue bus.old;
-          touched = touched;
+          accesses = accesses;
         }) ≡ next_of result hart.new (record {
           segments = B.segments bus.new;
           notes = B.notes bus.new;
           queue = B.queue bus.new;
-          touched = touched ++ touches_of_fetch hart.old.pc;
+          accesses = accesses ++ accesses_of_fetch hart.old.pc;
         }) }
     ensures track { B.track bus.new ≡ track_after_fetch B.rule hart.old.pc (B.track bus.old) }
     ensures aligned { IfNone result (hart.new.pc % FETCH_BYTES ≡ 0) }

@@ -28,10 +28,11 @@ impl CodeBus {
 impl Bus for CodeBus {
     ghost use Rattle.std.specs.Prelude.{[], ◌∷◌};
     ghost use Rattle.ad_core.specs.Image.{code_rights};
+    ghost use Rattle.ad_core.specs.Segments.{Code};
 
     type Track = ();
 
-    ghost segments = { λ b. record { base = b.base; bytes = b.bytes; rights = code_rights } ∷ [] };
+    ghost segments = { λ b. record { base = b.base; bytes = b.bytes; rights = code_rights; role = Code } ∷ [] };
 
     ghost notes = { λ _. [] };
 

@@ -26,7 +26,7 @@ ended-module m x = elim (eqb x.module m && is_current x.status) as (λ b. (cond 
 ended-other : (m n : ℕ) (s : Status) → n ≢ m → ended m (mapping_of n s) ≡ mapping_of n s
 ended-other m n s apart = ap (λ b. cond (b && is_current s) (mapping_of n Out) (mapping_of n s)) (ne_eqb n m apart)
 
-ended-current : (m n : ℕ) → n ≡ m → ended m (mapping_of n Current) ≡ mapping_of n Out
+pub ended-current : (m n : ℕ) → n ≡ m → ended m (mapping_of n Current) ≡ mapping_of n Out
 ended-current m n e = ap (λ b. cond (b && true) (mapping_of n Out) (mapping_of n Current)) (eq-eqb n m e)
 
 ended-stays : (m n : ℕ) (s : Status) → is_current s ≡ false → ended m (mapping_of n s) ≡ mapping_of n s

@@ -1,30 +1,15 @@
 -- Opening a batch keeps the invariant.
-use Rattle.std.proofs.Common.{◌≡◌, ℕ, ◌+◌, ◌-◌, ◌*◌, ◌<◌, ◌⊎◌, true, [], ◌∷◌, length, get_or, refl, sym, ap, ◌∙◌, subst, inl, inr, arith, length-append, true≢false}
-use Rattle.std.specs.List.{list_all, All}
+use Rattle.std.proofs.Common.{◌≡◌, ℕ, ◌+◌, ◌-◌, ◌*◌, ◌<◌, ◌⊎◌, [], ◌∷◌, length, get_or, refl, sym, ap, ◌∙◌, subst, inl, inr, arith, length-append}
 use Rattle.std.proofs.lemmas.Bool.{cases_eq}
 use Rattle.std.proofs.lemmas.List.{get_or_append_left, get_or-replicate, length-replicate}
 use Rattle.std.proofs.Math.Seq.{get_or-append_seam}
-use Rattle.std.proofs.lemmas.List.Sums.{AllPass-from_list_all}
 use Rattle.std.specs.Prelude.{replicate}
-use Rattle.ad_events.specs.Owed.{State, Batch, Passage, Ahead, Pushed, Settled, batch_at, pushed_on, count_of, passage_of, last_batch, IsOpened, share_of, owed_of, owers, share, slot_share, is_settled, is_idle, Open, after}
+use Rattle.ad_events.specs.Owed.{State, Batch, Passage, Ahead, batch_at, pushed_on, count_of, passage_of, last_batch, IsOpened, share_of, owed_of, owers, share, slot_share, IsIdle, Open, after}
+use Rattle.ad_events.specs.OwedInvariant.{PassageFits, Holds}
 use Rattle.ad_events.proofs.SumLemmas.{sum_below-const}
-use Rattle.ad_events.proofs.Invariant.{PassageFits, Holds, share-same, owed-same}
+use Rattle.ad_events.proofs.OwedWrites.{share-same, owed-same}
 
-settled_of : (p : Passage) → is_settled p ≡ true → p ≡ Settled
-settled_of Ahead e = absurd (true≢false (sym e))
-settled_of (Pushed found) e = absurd (true≢false (sym e))
-settled_of Settled e = refl
-
--- where the mover isn't inside a batch, each batch is settled on each slot
-pub idle-settled : (w : State) → Holds w → is_idle w ≡ true → (b s : ℕ) → IsOpened w b → s < length w.slots → passage_of w b s ≡ Settled
-idle-settled w h idle b s opened l =
-    let batches : All (λ batch. list_all is_settled batch.passages ≡ true) w.batches = AllPass-from_list_all (λ (x : Batch). list_all is_settled x.passages) w.batches idle in
-    let whole = batches (b - 1) (record { count = 0; passages = [] }) (omega arith) in
-    let lengths = h.lengths b opened in
-    let each : All (λ p. is_settled p ≡ true) (batch_at w b).passages = AllPass-from_list_all is_settled (batch_at w b).passages whole in
-    settled_of (passage_of w b s) (each s Ahead (omega arith))
-
-module _ (w : State) (h : Holds w) (idle : is_idle w ≡ true) where
+module _ (w : State) (h : Holds w) (idle : IsIdle w) where
   new : Batch
   new = record { count = length w.slots * slot_share; passages = replicate (length w.slots) Ahead }
 
@@ -59,7 +44,7 @@ module _ (w : State) (h : Holds w) (idle : is_idle w ≡ true) where
         | inl e ↦ let most = h.pushed s l in omega arith
         | inr apart ↦
             let opened : IsOpened w (last_batch w) = record { positive = omega arith; within = omega arith } in
-            let settled = idle-settled w h idle (last_batch w) s opened l in
+            let settled = idle (last_batch w) opened s l in
             let fits = subst (PassageFits (last_batch w) (pushed_on w s) (length w.seats) (last_batch w)) settled (h.passages (last_batch w) s opened l) in
             let most = h.pushed s l in omega arith
       ]
@@ -87,7 +72,7 @@ module _ (w : State) (h : Holds w) (idle : is_idle w ≡ true) where
       let Fits : Passage → Type 0 = PassageFits (last_batch (after w Open)) (pushed_on w s) (length w.seats) b in
       elim (cases b opened) [
         | inl old ↦
-            let settled = idle-settled w h idle b s old l in
+            let settled = idle b old s l in
             let same = ap (λ (x : Batch). get_or x.passages s Ahead) (before b old) in
             let fits = subst (PassageFits (last_batch w) (pushed_on w s) (length w.seats) b) settled (h.passages b s old l) in
             subst Fits (sym (same ∙ settled)) fits
@@ -102,7 +87,6 @@ module _ (w : State) (h : Holds w) (idle : is_idle w ≡ true) where
   Holds-open =
       record {
         sized = h.sized;
-        few = h.few;
         lengths = open-lengths;
         counted = open-counted;
         inside = h.inside;
@@ -111,12 +95,18 @@ module _ (w : State) (h : Holds w) (idle : is_idle w ≡ true) where
         passages = open-passages;
       }
 
-  -- for the count of zeros
+  -- reading after it
   pub open-last : last_batch (after w Open) ≡ last_batch w + 1
   open-last = last_is
 
   pub open-count : (b : ℕ) → IsOpened w b → count_of (after w Open) b ≡ count_of w b
   open-count b opened = ap (λ (x : Batch). x.count) (before b opened)
+
+  pub open-batch : (b : ℕ) → IsOpened w b → batch_at (after w Open) b ≡ batch_at w b
+  open-batch b opened = before b opened
+
+  pub open-ahead : (b s : ℕ) → b ≡ last_batch w + 1 → s < length w.slots → passage_of (after w Open) b s ≡ Ahead
+  open-ahead b s e l = here_ahead b s e l
 
   pub open-count_new : count_of (after w Open) (last_batch w + 1) ≡ length w.slots * slot_share
   open-count_new = ap (λ (x : Batch). x.count) here

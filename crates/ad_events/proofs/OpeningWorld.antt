@@ -21,7 +21,7 @@ find-absent n (p ∷ ps) q none =
     ∙ find-absent (n + 1) ps q (λ j l. none (suc j) (omega arith))
 
 -- a number that is found is one of those given, at its module's place
-find-place : (n : ℕ) (ps : List ℕ) (q : ℕ) (x : Mapping) → find nat_cmp q (opening_entries n ps) ≡ Some x → (j : ℕ) × (j < length ps) × (x ≡ mapping_of (n + j) Current) × (get_or ps j 0 ≡ q)
+pub find-place : (n : ℕ) (ps : List ℕ) (q : ℕ) (x : Mapping) → find nat_cmp q (opening_entries n ps) ≡ Some x → (j : ℕ) × (j < length ps) × (x ≡ mapping_of (n + j) Current) × (get_or ps j 0 ≡ q)
 find-place n [] q x found = absurd (true≢false (sym (ap is_some found)))
 find-place n (p ∷ ps) q x found =
     elim (cases_eq q p) [
@@ -38,7 +38,7 @@ find-place n (p ∷ ps) q x found =
     ]
 
 -- each number given is found
-find-listed : (n : ℕ) (ps : List ℕ) → AllDiffer ps → (m : ℕ) → m < length ps → find nat_cmp (get_or ps m 0) (opening_entries n ps) ≡ Some (mapping_of (n + m) Current)
+pub find-listed : (n : ℕ) (ps : List ℕ) → AllDiffer ps → (m : ℕ) → m < length ps → find nat_cmp (get_or ps m 0) (opening_entries n ps) ≡ Some (mapping_of (n + m) Current)
 find-listed n [] differ m l = absurd (omega arith)
 find-listed n (p ∷ ps) differ zero l =
     let place : n ≡ n + 0 = omega arith in

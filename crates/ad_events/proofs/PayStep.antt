@@ -3,10 +3,11 @@ use Rattle.std.proofs.Common.{◌≡◌, ℕ, ◌+◌, ◌-◌, ◌<◌, ◌≤�
 use Rattle.std.specs.List.{count_by}
 use Rattle.std.proofs.lemmas.Bool.{cases_eq}
 use Rattle.ad_events.specs.Sums.{bit}
-use Rattle.ad_events.specs.Owed.{State, Batch, Passage, Ahead, Pushed, Settled, Seat, Away, Inside, Paying, batch_at, seat_at, pushed_on, count_of, passage_of, last_batch, IsOpened, put_count, put_seat, owes_on, owers, share, share_of, owed_of, is_inside, to_pay, paid_by, IsPaying, Pay, MayStep, after}
+use Rattle.ad_events.specs.Owed.{State, Batch, Passage, Ahead, Pushed, Settled, Seat, Away, Paying, batch_at, seat_at, pushed_on, count_of, passage_of, last_batch, IsOpened, put_count, put_seat, owes_on, owers, share, share_of, owed_of, is_inside, to_pay, paid_by, Pay, MayStep, after}
 use Rattle.ad_events.proofs.SumLemmas.{sum_below-at, count_by-at, count_by-changed}
-use Rattle.ad_events.proofs.SeatLemmas.{SeatFits, owers-changed, owers-kept, owes-paying, owes-paid, owes-paid_other}
-use Rattle.ad_events.proofs.Invariant.{PassageFits, Holds, share-same, owed-same, owed-changed, batch_at-put_same, batch_at-put_other, seat_at-put_same, seat_at-put_other, count-put_other, IsOpened-put}
+use Rattle.ad_events.specs.OwedInvariant.{SeatFits, PassageFits, Holds}
+use Rattle.ad_events.proofs.SeatLemmas.{owers-changed, owers-kept, owes-paying, owes-paid, owes-paid_other}
+use Rattle.ad_events.proofs.OwedWrites.{IsSized-same, paying-within, share-same, owed-same, owed-changed, batch_at-put_same, batch_at-put_other, seat_at-put_same, seat_at-put_other, count-put_other, IsOpened-put}
 use Rattle.ad_events.proofs.SeatSteps.{PassageFits-same, to_pay-fits, to_pay-outside}
 
 -- a slot adds something where somebody owes
@@ -21,7 +22,10 @@ share-less last pushed seats b Ahead new old fits l e = absurd (let at = fits.1 
 share-less last pushed seats b (Pushed found) new old fits l e = omega arith
 share-less last pushed seats b Settled new old fits l e = e
 
-module _ (w : State) (h : Holds w) (i s paid last : ℕ) (a_seat : i < length w.seats) (is : seat_at w i ≡ Paying s paid last) where
+module _ (w : State) (h : Holds w) (i s paid last : ℕ) (is : seat_at w i ≡ Paying s paid last) where
+  a_seat : i < length w.seats
+  a_seat = paying-within w i s paid last is
+
   fit : (s < length w.slots) × (paid < last) × (last ≤ pushed_on w s)
   fit = subst (SeatFits (length w.slots) (pushed_on w)) is (h.seats i a_seat)
 
@@ -128,8 +132,7 @@ module _ (w : State) (h : Holds w) (i s paid last : ℕ) (a_seat : i < length w.
   unfolding v seat
   Holds-paid =
       record {
-        sized = h.sized;
-        few = (let few = h.few in let same = seats_kept in omega arith);
+        sized = IsSized-same (length w.slots) (length w.seats) (length w.slots) (length v.seats) refl seats_kept h.sized;
         lengths = λ b opened. ap length (passages_kept b opened.positive) ∙ h.lengths b (opened_in b opened);
         counted = λ b opened. counted b (opened_in b opened);
         inside = λ t l. h.inside t l ∙ sym (inside_is t);
@@ -141,17 +144,12 @@ module _ (w : State) (h : Holds w) (i s paid last : ℕ) (a_seat : i < length w.
             (subst (PassageFits (last_batch w) (pushed_on w t) (length w.seats) b) (sym (passage_kept b t opened.positive)) (h.passages b t (opened_in b opened) l)));
       }
 
-module _ (w : State) (h : Holds w) (i s paid last : ℕ) (a_seat : i < length w.seats) (is : seat_at w i ≡ Paying s paid last) where
+module _ (w : State) (h : Holds w) (i s paid last : ℕ) (is : seat_at w i ≡ Paying s paid last) where
   pub pay-last : last_batch (paid_by w i (Paying s paid last)) ≡ last_batch w
   pay-last = length-set w.batches _ _
 
   pub pay-count_other : (b : ℕ) → 0 < b → b ≢ paid + 1 → count_of (paid_by w i (Paying s paid last)) b ≡ count_of w b
   pay-count_other b positive apart = count-put_other w (paid + 1) b _ (omega arith) positive apart
 
-pay-as : (w : State) (h : Holds w) (i : ℕ) (seat : Seat) → i < length w.seats → seat_at w i ≡ seat → IsPaying seat → Holds (paid_by w i seat)
-pay-as w h i Away a_seat is paying = absurd paying
-pay-as w h i (Inside s entry) a_seat is paying = absurd paying
-pay-as w h i (Paying s paid last) a_seat is paying = Holds-paid w h i s paid last a_seat is
-
 pub Holds-pay : (w : State) (h : Holds w) (i : ℕ) → MayStep w (Pay i) → Holds (after w (Pay i))
-Holds-pay w h i may = pay-as w h i (seat_at w i) may.0 refl may.1
+Holds-pay w h i may = subst Holds (sym (ap (paid_by w i) may.3)) (Holds-paid w h i may.0 may.1 may.2 may.3)

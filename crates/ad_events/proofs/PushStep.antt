@@ -1,15 +1,11 @@
 -- Pushing a batch on a slot keeps the invariant.
-use Rattle.std.proofs.Common.{◌≡◌, ℕ, ◌+◌, ◌-◌, ◌<◌, ◌≤◌, ◌≢◌, false, length, refl, sym, ap, ap₂, ◌∙◌, subst, inl, inr, arith, length-set, true≢false}
+use Rattle.std.proofs.Common.{◌≡◌, ℕ, ◌+◌, ◌-◌, ◌<◌, ◌≤◌, ◌≢◌, length, refl, sym, ap, ap₂, ◌∙◌, subst, inl, inr, arith, length-set}
 use Rattle.std.proofs.lemmas.Bool.{cases_eq}
-use Rattle.std.proofs.lemmas.List.Sums.{prefix_len_stops, count_by-le-length}
-use Rattle.ad_events.specs.Owed.{State, Slot, Passage, Ahead, Pushed, Settled, Seat, Away, Inside, Paying, slot_at, batch_at, seat_at, inside_of, pushed_on, count_of, passage_of, last_batch, IsOpened, owers, share, share_of, slot_share, is_inside, is_passed, Push, MayStep, after}
-use Rattle.ad_events.proofs.SeatLemmas.{SeatFits, owers-pushed, owers-pushed_other}
-use Rattle.ad_events.proofs.Invariant.{HasSlots-same, PassageFits, Holds, share-same, owed-same, slot_at-put_same, slot_at-put_other, passage-put_same, passage-put_other, count-put_same, count-put_other, IsOpened-put, lengths-put}
-
-ahead_of : (p : Passage) → is_passed p ≡ false → p ≡ Ahead
-ahead_of Ahead e = refl
-ahead_of (Pushed found) e = absurd (true≢false e)
-ahead_of Settled e = absurd (true≢false e)
+use Rattle.std.proofs.lemmas.List.Sums.{count_by-le-length}
+use Rattle.ad_events.specs.Owed.{State, Slot, Passage, Ahead, Pushed, Settled, Seat, Away, Inside, Paying, slot_at, seat_at, inside_of, pushed_on, count_of, passage_of, last_batch, IsOpened, owers, share, share_of, slot_share, is_inside, Push, MayStep, after}
+use Rattle.ad_events.specs.OwedInvariant.{SeatFits, PassageFits, Holds}
+use Rattle.ad_events.proofs.SeatLemmas.{owers-pushed, owers-pushed_other}
+use Rattle.ad_events.proofs.OwedWrites.{IsSized-same, share-same, owed-same, slot_at-put_same, slot_at-put_other, passage-put_same, passage-put_other, count-put_same, count-put_other, IsOpened-put, lengths-put}
 
 -- a seat that fits still fits where no slot's last batch is lower
 pub SeatFits-higher : (n : ℕ) (f g : ℕ → ℕ) → ((s : ℕ) → s < n → f s ≤ g s) → (seat : Seat) → SeatFits n f seat → SeatFits n g seat
@@ -28,22 +24,15 @@ module _ (w : State) (h : Holds w) (s : ℕ) (may : MayStep w (Push s)) where
   v = after w (Push s)
 
   last_opened : IsOpened w (last_batch w)
-  last_opened = record { positive = may.0; within = omega arith }
-
-  -- the batch isn't pushed on the slot yet
-  ahead : passage_of w (last_batch w) s ≡ Ahead
-  ahead =
-      let lengths = h.lengths (last_batch w) last_opened in
-      let stops = prefix_len_stops is_passed (batch_at w (last_batch w)).passages Ahead (let l = may.1 in let at = may.2 in omega arith) in
-      ahead_of (passage_of w (last_batch w) s) (ap (λ i. is_passed (passage_of w (last_batch w) i)) may.2 ∙ stops)
+  last_opened = record { positive = may.opened; within = omega arith }
 
   -- the slot is one push behind
   behind : pushed_on w s + 1 ≡ last_batch w
-  behind = (subst (PassageFits (last_batch w) (pushed_on w s) (length w.seats) (last_batch w)) ahead (h.passages (last_batch w) s last_opened may.1)).1
+  behind = (subst (PassageFits (last_batch w) (pushed_on w s) (length w.seats) (last_batch w)) may.ahead (h.passages (last_batch w) s last_opened may.slot)).1
 
   slot_here : slot_at v s ≡ record { inside = inside_of w s; pushed = pushed_on w s + 1 }
   unfolding v
-  slot_here = slot_at-put_same w s (record { inside = inside_of w s; pushed = pushed_on w s + 1 }) may.1
+  slot_here = slot_at-put_same w s (record { inside = inside_of w s; pushed = pushed_on w s + 1 }) may.slot
 
   slot_other : (t : ℕ) → t ≢ s → slot_at v t ≡ slot_at w t
   unfolding v
@@ -70,7 +59,7 @@ module _ (w : State) (h : Holds w) (s : ℕ) (may : MayStep w (Push s)) where
   unfolding v
   passage_here =
       passage-put_same w (last_batch w) (count_of w (last_batch w)) s (Pushed (inside_of w s)) last_opened
-      (let lengths = h.lengths (last_batch w) last_opened in let l = may.1 in omega arith)
+      (let lengths = h.lengths (last_batch w) last_opened in let l = may.slot in omega arith)
 
   passage_other : (b t : ℕ) → IsOpened w b → (b ≡ last_batch w → t ≡ s → ⊥) → passage_of v b t ≡ passage_of w b t
   unfolding v
@@ -92,13 +81,13 @@ module _ (w : State) (h : Holds w) (s : ℕ) (may : MayStep w (Push s)) where
   unfolding v
   share_here =
       let back = behind in
-      let found = h.inside s may.1 in
+      let found = h.inside s may.slot in
       let many = count_by-le-length (is_inside s) w.seats in
-      let few = h.few in
+      let few = h.sized.few_seats in
       let owing : owers (pushed_on v s) (last_batch w) s w.seats ≡ inside_of w s =
       ap (λ p. owers p (last_batch w) s w.seats) pushed_here ∙ owers-pushed (length w.slots) (pushed_on w) w.seats h.seats (last_batch w) s (sym back) ∙ sym found in
       let new : share_of v (last_batch w) s ≡ slot_share - inside_of w s + inside_of w s = ap₂ share passage_here owing in
-      let old : share_of w (last_batch w) s ≡ slot_share = ap (λ p. share p (owers (pushed_on w s) (last_batch w) s w.seats)) ahead in
+      let old : share_of w (last_batch w) s ≡ slot_share = ap (λ p. share p (owers (pushed_on w s) (last_batch w) s w.seats)) may.ahead in
       omega arith
 
   shares : (b t : ℕ) → IsOpened w b → t < length w.slots → share_of v b t ≡ share_of w b t
@@ -119,7 +108,7 @@ module _ (w : State) (h : Holds w) (s : ℕ) (may : MayStep w (Push s)) where
   count_kept b opened =
       elim (cases_eq b (last_batch w)) [
         | inl e ↦ ap (count_of v) e ∙ count-put_same w (last_batch w) (count_of w (last_batch w)) _ last_opened ∙ ap (count_of w) (sym e)
-        | inr apart ↦ count-put_other w (last_batch w) b _ may.0 opened.positive apart
+        | inr apart ↦ count-put_other w (last_batch w) b _ may.opened opened.positive apart
       ]
 
   slots_kept : length v.slots ≡ length w.slots
@@ -153,7 +142,7 @@ module _ (w : State) (h : Holds w) (s : ℕ) (may : MayStep w (Push s)) where
             let back = behind in
             elim (cases_eq b (last_batch w)) [
               | inl last ↦
-                  let found = h.inside s may.1 in
+                  let found = h.inside s may.slot in
                   let many = count_by-le-length (is_inside s) w.seats in
                   let new : (b ≡ last_batch w) × (pushed_on v t ≡ b) × (inside_of w s ≤ length w.seats) = (last, omega arith, omega arith) in
                   subst (PassageFits (last_batch w) (pushed_on v t) (length w.seats) b) (sym (ap₂ (passage_of v) last e ∙ passage_here)) new
@@ -171,8 +160,7 @@ module _ (w : State) (h : Holds w) (s : ℕ) (may : MayStep w (Push s)) where
   unfolding v
   Holds-push =
       record {
-        sized = HasSlots-same (length w.slots) (length v.slots) slots_kept h.sized;
-        few = h.few;
+        sized = IsSized-same (length w.slots) (length w.seats) (length v.slots) (length w.seats) slots_kept refl h.sized;
         lengths = λ b opened. lengths-put w (last_batch w) b _ s _ last_opened (opened_in b opened) ∙ h.lengths b (opened_in b opened) ∙ sym slots_kept;
         counted = λ b opened. count_kept b (opened_in b opened) ∙ h.counted b (opened_in b opened) ∙ sym (owed-same v w b slots_kept (λ t l. shares b t (opened_in b opened) l));
         inside = λ t l. inside_kept t ∙ h.inside t (let same = slots_kept in omega arith);

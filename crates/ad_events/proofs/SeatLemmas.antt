@@ -1,10 +1,11 @@
 -- What a seat owes, seat by seat, and how many owe a batch where one seat changes or a batch is pushed.
-use Rattle.std.proofs.Common.{◌≡◌, ℕ, ◌+◌, ◌<◌, ◌≤◌, ◌≢◌, true, false, List, length, get_or, set, refl, ap, inl, inr, arith}
+use Rattle.std.proofs.Common.{◌≡◌, ℕ, ◌+◌, ◌<◌, ◌≢◌, true, false, List, length, get_or, set, refl, ap, inl, inr, arith}
 use Rattle.std.specs.List.{count_by}
 use Rattle.std.proofs.lemmas.Bool.Decides.{nat_tests}
 use Rattle.std.proofs.lemmas.Bool.{cases_eq, cases_lt}
 use Rattle.ad_events.specs.Sums.{bit}
 use Rattle.ad_events.specs.Owed.{Seat, Away, Inside, Paying, owes_on, owers, to_pay, is_inside}
+use Rattle.ad_events.specs.OwedInvariant.{SeatFits}
 use Rattle.ad_events.proofs.SumLemmas.{count_by-changed, count_by-same, count_by-none}
 
 -- ---- one seat
@@ -40,12 +41,6 @@ owes-paid_other pushed b s slot paid last apart =
       | inl e ↦ elim (cases_lt (paid + 1) last) [ inl l ↦ grind (arith, nat_tests) | inr m ↦ grind (arith, nat_tests) ]
       | inr other ↦ elim (cases_lt (paid + 1) last) [ inl l ↦ grind (arith, nat_tests) | inr m ↦ grind (arith, nat_tests) ]
     ]
-
--- a seat that fits a table of n slots, whose last batches are given by f
-abbrev pub SeatFits : ℕ → (ℕ → ℕ) → Seat → Type 0
-SeatFits n f Away = Unit {0}
-SeatFits n f (Inside slot entry) = (slot < n) × (entry ≤ f slot)
-SeatFits n f (Paying slot paid last) = (slot < n) × (paid < last) × (last ≤ f slot)
 
 -- where the next batch is pushed on a slot, a seat that is inside owes it
 pub owes-pushed : (n : ℕ) (f : ℕ → ℕ) (b s : ℕ) (seat : Seat) → SeatFits n f seat → b ≡ f s + 1 → owes_on (f s + 1) b s seat ≡ is_inside s seat

@@ -4,10 +4,11 @@ use Rattle.std.specs.List.{count_by}
 use Rattle.std.proofs.lemmas.Bool.{cases_eq, cases_lt}
 use Rattle.std.proofs.lemmas.Bool.Decides.{nat_tests}
 use Rattle.ad_events.specs.Sums.{bit}
-use Rattle.ad_events.specs.Owed.{State, Slot, Passage, Ahead, Pushed, Settled, Seat, Away, Inside, Paying, slot_at, seat_at, inside_of, pushed_on, passage_of, last_batch, put_slot, put_seat, owes_on, owers, share_of, is_inside, to_pay, Enter, Leave, MayStep, IsInside, left, after}
+use Rattle.ad_events.specs.Owed.{State, Slot, Passage, Ahead, Pushed, Settled, Seat, Away, Inside, Paying, slot_at, seat_at, inside_of, pushed_on, passage_of, last_batch, put_slot, put_seat, owes_on, owers, share_of, is_inside, to_pay, Enter, Leave, MayStep, left, after}
 use Rattle.ad_events.proofs.SumLemmas.{count_by-changed, count_by-at}
-use Rattle.ad_events.proofs.SeatLemmas.{SeatFits, owers-kept, owes-entered, owes-left}
-use Rattle.ad_events.proofs.Invariant.{HasSlots-same, PassageFits, Holds, share-same, owed-same, slot_at-put_same, slot_at-put_other, seat_at-put_same, seat_at-put_other}
+use Rattle.ad_events.specs.OwedInvariant.{SeatFits, PassageFits, Holds}
+use Rattle.ad_events.proofs.SeatLemmas.{owers-kept, owes-entered, owes-left}
+use Rattle.ad_events.proofs.OwedWrites.{IsSized-same, inside-within, share-same, owed-same, slot_at-put_same, slot_at-put_other, seat_at-put_same, seat_at-put_other}
 
 -- the same numbers, the same fit
 pub SeatFits-same : (n m : ℕ) (f g : ℕ → ℕ) (seat : Seat) → m ≡ n → ((s : ℕ) → g s ≡ f s) → SeatFits n f seat → SeatFits m g seat
@@ -86,8 +87,7 @@ module _ (w : State) (h : Holds w) (i s : ℕ) (seat : Seat) (inside : ℕ) (a_s
   unfolding v
   Holds-seat =
       record {
-        sized = HasSlots-same (length w.slots) (length v.slots) slots_kept h.sized;
-        few = (let few = h.few in let same = seats_kept in omega arith);
+        sized = IsSized-same (length w.slots) (length w.seats) (length v.slots) (length v.seats) slots_kept seats_kept h.sized;
         lengths = λ b opened. h.lengths b (record { positive = opened.positive; within = opened.within }) ∙ sym slots_kept;
         counted = λ b opened. h.counted b (record { positive = opened.positive; within = opened.within }) ∙ sym (owed-same v w b slots_kept (λ t l. shares b t));
         inside = λ t l. inside_is t (let same = slots_kept in omega arith);
@@ -101,14 +101,15 @@ module _ (w : State) (h : Holds w) (i s : ℕ) (seat : Seat) (inside : ℕ) (a_s
 module _ (w : State) (h : Holds w) where
   pub Holds-enter : (i s : ℕ) → MayStep w (Enter i s) → Holds (after w (Enter i s))
   Holds-enter i s may =
-      Holds-seat w h i s (Inside s (pushed_on w s)) (inside_of w s + 1) may.0 may.1 (may.1, omega arith)
-      (λ b t. owes-entered (pushed_on w) b t s ∙ ap (owes_on (pushed_on w t) b t) (sym may.2))
-      (let one = ap bit (eq-eqb s s refl) in let none = ap (λ x. bit (is_inside s x)) may.2 in omega arith)
-      (λ t apart. ne_eqb s t (λ e. apart (sym e)) ∙ ap (is_inside t) (sym may.2))
+      Holds-seat w h i s (Inside s (pushed_on w s)) (inside_of w s + 1) may.seat may.slot (may.slot, omega arith)
+      (λ b t. owes-entered (pushed_on w) b t s ∙ ap (owes_on (pushed_on w t) b t) (sym may.away))
+      (let one = ap bit (eq-eqb s s refl) in let none = ap (λ x. bit (is_inside s x)) may.away in omega arith)
+      (λ t apart. ne_eqb s t (λ e. apart (sym e)) ∙ ap (is_inside t) (sym may.away))
 
   -- somebody is inside a slot that a seat leaves
-  pub leave-within : (i s entry : ℕ) → i < length w.seats → seat_at w i ≡ Inside s entry → 0 < inside_of w s
-  leave-within i s entry a_seat is =
+  pub leave-within : (i s entry : ℕ) → seat_at w i ≡ Inside s entry → 0 < inside_of w s
+  leave-within i s entry is =
+      let a_seat = inside-within w i s entry is in
       let fits = subst (SeatFits (length w.slots) (pushed_on w)) is (h.seats i a_seat) in
       let number = h.inside s fits.0 in
       let counted = count_by-at (is_inside s) w.seats i Away a_seat (ap (is_inside s) is ∙ eq-eqb s s refl) in omega arith
@@ -124,17 +125,16 @@ module _ (w : State) (h : Holds w) where
   pub to_pay-outside : (t s paid last : ℕ) → is_inside t (to_pay s paid last) ≡ false
   to_pay-outside t s paid last = elim (cases_lt paid last) [ inl less ↦ grind (arith, nat_tests) | inr more ↦ grind (arith, nat_tests) ]
 
-  leave-as : (i : ℕ) (seat : Seat) → i < length w.seats → seat_at w i ≡ seat → IsInside seat → Holds (left w i seat)
-  leave-as i Away a_seat is inside = absurd inside
-  leave-as i (Inside s entry) a_seat is inside =
+  Holds-left : (i s entry : ℕ) → seat_at w i ≡ Inside s entry → Holds (left w i (Inside s entry))
+  Holds-left i s entry is =
+      let a_seat = inside-within w i s entry is in
       let fits = subst (SeatFits (length w.slots) (pushed_on w)) is (h.seats i a_seat) in
       Holds-seat w h i s (to_pay s entry (pushed_on w s)) (inside_of w s - 1) a_seat fits.0 (to_pay-fits s entry (pushed_on w s) fits.0 (omega arith))
       (λ b t. owes-left (pushed_on w) b t s entry ∙ ap (owes_on (pushed_on w t) b t) (sym is))
-      (let some = leave-within i s entry a_seat is in
+      (let some = leave-within i s entry is in
       let one = ap (λ x. bit (is_inside s x)) is ∙ ap bit (eq-eqb s s refl) in
       let none = ap bit (to_pay-outside s s entry (pushed_on w s)) in omega arith)
       (λ t apart. to_pay-outside t s entry (pushed_on w s) ∙ sym (ap (is_inside t) is ∙ ne_eqb s t (λ e. apart (sym e))))
-  leave-as i (Paying s paid last) a_seat is inside = absurd inside
 
   pub Holds-leave : (i : ℕ) → MayStep w (Leave i) → Holds (after w (Leave i))
-  Holds-leave i may = leave-as i (seat_at w i) may.0 refl may.1
+  Holds-leave i may = subst Holds (sym (ap (left w i) may.2)) (Holds-left i may.0 may.1 may.2)

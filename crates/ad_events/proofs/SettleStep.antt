@@ -1,15 +1,17 @@
 -- Settling a slot keeps the invariant, and takes from the count no more than it has.
 use Rattle.std.proofs.Common.{◌≡◌, ℕ, ◌+◌, ◌-◌, ◌<◌, ◌≤◌, ◌≢◌, length, refl, sym, ap, ap₂, ◌∙◌, subst, inl, inr, arith, length-set}
 use Rattle.std.proofs.lemmas.Bool.{cases_eq}
-use Rattle.ad_events.specs.Owed.{State, Passage, Ahead, Pushed, Settled, pushed_on, count_of, passage_of, last_batch, IsOpened, owers, share, share_of, owed_of, slot_share, found_by, IsPushed, Settle, MayStep, after}
+use Rattle.ad_events.specs.Owed.{State, Passage, Pushed, Settled, pushed_on, count_of, passage_of, last_batch, IsOpened, owers, share, share_of, owed_of, slot_share, found_by, Settle, MayStep, after}
+use Rattle.ad_events.specs.OwedInvariant.{PassageFits, Holds}
 use Rattle.ad_events.proofs.SumLemmas.{sum_below-at}
-use Rattle.ad_events.proofs.Invariant.{PassageFits, Holds, share-same, owed-same, owed-changed, passage-put_same, passage-put_other, count-put_same, count-put_other, IsOpened-put, lengths-put}
+use Rattle.ad_events.proofs.OwedWrites.{share-same, owed-same, owed-changed, passage-put_same, passage-put_other, count-put_same, count-put_other, IsOpened-put, lengths-put}
 
--- a passage that may be settled is pushed, and what the push found fits
-pub found-fits : (last pushed seats b : ℕ) (p : Passage) → IsPushed p → PassageFits last pushed seats b p → (p ≡ Pushed (found_by p)) × (pushed ≡ b) × (found_by p ≤ seats)
-found-fits last pushed seats b Ahead is fits = absurd is
-found-fits last pushed seats b (Pushed found) is fits = (refl, fits.1, fits.2)
-found-fits last pushed seats b Settled is fits = absurd is
+-- what a pushed passage that fits says
+pub found-fits : (last pushed seats b found : ℕ) (p : Passage) → p ≡ Pushed found → PassageFits last pushed seats b p → (p ≡ Pushed (found_by p)) × (pushed ≡ b) × (found_by p ≤ seats)
+found-fits last pushed seats b found p is fits =
+    let at = subst (PassageFits last pushed seats b) is fits in
+    let same = ap found_by is in
+    (is ∙ ap (λ n. Pushed n) (sym same), at.1, let low = at.2 in omega arith)
 
 module _ (w : State) (h : Holds w) (s : ℕ) (may : MayStep w (Settle s)) where
   v : State
@@ -19,10 +21,10 @@ module _ (w : State) (h : Holds w) (s : ℕ) (may : MayStep w (Settle s)) where
   found = found_by (passage_of w (last_batch w) s)
 
   last_opened : IsOpened w (last_batch w)
-  last_opened = record { positive = may.0; within = omega arith }
+  last_opened = record { positive = may.opened; within = omega arith }
 
   was : (passage_of w (last_batch w) s ≡ Pushed found) × (pushed_on w s ≡ last_batch w) × (found ≤ length w.seats)
-  was = found-fits (last_batch w) (pushed_on w s) (length w.seats) (last_batch w) (passage_of w (last_batch w) s) may.2 (h.passages (last_batch w) s last_opened may.1)
+  was = found-fits (last_batch w) (pushed_on w s) (length w.seats) (last_batch w) may.pushed.0 (passage_of w (last_batch w) s) may.pushed.1 (h.passages (last_batch w) s last_opened may.slot)
 
   share_old : share_of w (last_batch w) s ≡ slot_share - found + owers (pushed_on w s) (last_batch w) s w.seats
   share_old = ap (λ p. share p (owers (pushed_on w s) (last_batch w) s w.seats)) was.0
@@ -31,7 +33,7 @@ module _ (w : State) (h : Holds w) (s : ℕ) (may : MayStep w (Settle s)) where
   pub settle-within : slot_share - found ≤ count_of w (last_batch w)
   settle-within =
       let count = h.counted (last_batch w) last_opened in
-      let part = sum_below-at (length w.slots) (share_of w (last_batch w)) s may.1 in
+      let part = sum_below-at (length w.slots) (share_of w (last_batch w)) s may.slot in
       let old = share_old in omega arith
 
   opened_in : (b : ℕ) → IsOpened v b → IsOpened w b
@@ -40,7 +42,7 @@ module _ (w : State) (h : Holds w) (s : ℕ) (may : MayStep w (Settle s)) where
 
   passage_here : passage_of v (last_batch w) s ≡ Settled
   unfolding v
-  passage_here = passage-put_same w (last_batch w) _ s Settled last_opened (let lengths = h.lengths (last_batch w) last_opened in let l = may.1 in omega arith)
+  passage_here = passage-put_same w (last_batch w) _ s Settled last_opened (let lengths = h.lengths (last_batch w) last_opened in let l = may.slot in omega arith)
 
   passage_other : (b t : ℕ) → IsOpened w b → (b ≡ last_batch w → t ≡ s → ⊥) → passage_of v b t ≡ passage_of w b t
   unfolding v
@@ -52,7 +54,7 @@ module _ (w : State) (h : Holds w) (s : ℕ) (may : MayStep w (Settle s)) where
 
   count_other : (b : ℕ) → 0 < b → b ≢ last_batch w → count_of v b ≡ count_of w b
   unfolding v
-  count_other b positive apart = count-put_other w (last_batch w) b _ may.0 positive apart
+  count_other b positive apart = count-put_other w (last_batch w) b _ may.opened positive apart
 
   share_new : share_of v (last_batch w) s ≡ owers (pushed_on w s) (last_batch w) s w.seats
   unfolding v
@@ -69,7 +71,7 @@ module _ (w : State) (h : Holds w) (s : ℕ) (may : MayStep w (Settle s)) where
   counted_last : count_of v (last_batch w) ≡ owed_of v (last_batch w)
   unfolding v
   counted_last =
-      let sums = owed-changed v w (last_batch w) s refl may.1 (λ t l apart. share_other (last_batch w) t last_opened (λ _. apart)) in
+      let sums = owed-changed v w (last_batch w) s refl may.slot (λ t l apart. share_other (last_batch w) t last_opened (λ _. apart)) in
       let count = h.counted (last_batch w) last_opened in
       let here = count_here in let old = share_old in let new = share_new in let within = settle-within in omega arith
 
@@ -100,7 +102,6 @@ module _ (w : State) (h : Holds w) (s : ℕ) (may : MayStep w (Settle s)) where
   Holds-settle =
       record {
         sized = h.sized;
-        few = h.few;
         lengths = λ b opened. lengths-put w (last_batch w) b _ s _ last_opened (opened_in b opened) ∙ h.lengths b (opened_in b opened);
         counted = λ b opened. counted b (opened_in b opened);
         inside = h.inside;
@@ -118,4 +119,4 @@ module _ (w : State) (h : Holds w) (s : ℕ) (may : MayStep w (Settle s)) where
   settle-count_other b positive apart = count_other b positive apart
 
   pub settle-positive : 0 < count_of w (last_batch w)
-  settle-positive = let within = settle-within in let few = h.few in let low = was.2 in omega arith
+  settle-positive = let within = settle-within in let few = h.sized.few_seats in let low = was.2 in omega arith

@@ -11,19 +11,14 @@ use Rattle.ad_events.specs.declared.event.Event.{Event}
 use Rattle.ad_events.specs.declared.event.Event.TheVariants.{Enter, Read, Leave, Map, Switch, Retire, Unmap}
 use Rattle.ad_events.specs.Sums.{bit}
 use Rattle.ad_events.specs.Mapping.{rank_of}
-use Rattle.ad_events.specs.World.{EventWorld, mapping_of, status_of, IsLawful, is_current, ended, map_values, with_status, effect, opening, opening_entries, AllDiffer, MayHold, MayBeInside, WorldFits, current_after}
+use Rattle.ad_events.specs.World.{EventWorld, mapping_of, status_of, IsLawful, is_current, ended, map_values, with_status, effect, opening, opening_entries, AllDiffer, MayHold, MayBeInside, IsWorld, current_after}
 use Rattle.ad_events.specs.WorldLaws.{run, AllLawful, OneCurrent, GoesOn, EachGoesOn, NeverBack, NoneGoneInside, unmaps, GoneOnce, NotGoneNever}
+use Rattle.ad_events.proofs.RunLemmas.{run-keeps}
 use Rattle.ad_events.proofs.SumLemmas.{count_by-cons}
 use Rattle.ad_events.proofs.FiniteMaps.{get-insert_same, get-insert_other}
 use Rattle.ad_events.proofs.WorldLemmas.{get-map_values, from_status, with_status-is}
 use Rattle.ad_events.proofs.Events.{WorldFits-event, current_of}
 use Rattle.ad_events.proofs.OpeningWorld.{WorldFits-opening}
-
--- a world that some list of current mappings fits
-pub record IsWorld (w : EventWorld) : Type 0 where
-  pub current : List ℕ
-  pub same : w.modules ≡ length current
-  pub fits : WorldFits current w.mappings w.inside w.entered
 
 length-current_after : (current : List ℕ) (e : Event) → length (current_after current e) ≡ length current
 length-current_after current (Enter worker) = refl
@@ -34,7 +29,7 @@ length-current_after current (Switch m p) = length-set current m p
 length-current_after current (Retire p) = refl
 length-current_after current (Unmap p) = refl
 
-IsWorld-event : (w : EventWorld) → IsWorld w → (e : Event) → IsLawful w e → IsWorld (effect w e)
+pub IsWorld-event : (w : EventWorld) → IsWorld w → (e : Event) → IsLawful w e → IsWorld (effect w e)
 IsWorld-event w is e lawful =
     record {
       current = current_after is.current e;
@@ -42,11 +37,10 @@ IsWorld-event w is e lawful =
       fits = WorldFits-event is.current w is.same is.fits e lawful;
     }
 
-IsWorld-run : (w : EventWorld) → IsWorld w → (events : List Event) → AllLawful w events → IsWorld (run w events)
-IsWorld-run w is [] lawful = is
-IsWorld-run w is (e ∷ es) lawful = IsWorld-run (effect w e) (IsWorld-event w is e lawful.0) es lawful.1
+pub IsWorld-run : (w : EventWorld) → IsWorld w → (events : List Event) → AllLawful w events → IsWorld (run w events)
+IsWorld-run w is events lawful = run-keeps IsLawful effect IsWorld IsWorld-event w is events lawful
 
-IsWorld-opening : (workers : ℕ) (current : List ℕ) → AllDiffer current → IsWorld (opening workers current)
+pub IsWorld-opening : (workers : ℕ) (current : List ℕ) → AllDiffer current → IsWorld (opening workers current)
 IsWorld-opening workers current differ = record { current = current; same = refl; fits = WorldFits-opening current differ }
 
 -- what holds of every world holds after all lawful events

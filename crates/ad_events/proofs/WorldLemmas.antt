@@ -34,6 +34,10 @@ from_status (Some x) s e = (x.module, ap (λ (t : Status). Some (mapping_of x.mo
 pub with_status-is : (ms : map.FinMap nat_cmp Mapping) (p m : ℕ) (old new : Status) → map.get ms p ≡ Some (mapping_of m old) → with_status ms p new ≡ map.insert ms p (mapping_of m new)
 with_status-is ms p m old new e = ap (put_status ms p new) e
 
+-- statuses with different numbers differ
+pub status≢ : (s t : Status) (n : Status → ℕ) → n s ≢ n t → Some s ≢ Some t
+status≢ s t n apart e = apart (ap (λ o. n (unwrap_or o s)) e)
+
 -- ---- where one mapping changes, which isn't current before or after
 
 module _ (current : List ℕ) (ms new : map.FinMap nat_cmp Mapping) (inside : map.FinMap nat_cmp ℕ) (entered : set.FinSet nat_cmp)

@@ -1,16 +1,16 @@
 -- The count of a batch becomes zero in one step, and stays zero.
-use Rattle.std.proofs.Common.{◌≡◌, ◌≢◌, ℕ, ◌+◌, ◌*◌, ◌<◌, ◌≤◌, false, ◌&&◌, eqb, leb, List, [], ◌∷◌, length, refl, sym, ap, ◌∙◌, inl, inr, arith, ne_eqb}
+use Rattle.std.proofs.Common.{◌≡◌, ◌≢◌, ℕ, ◌+◌, ◌*◌, ◌<◌, ◌≤◌, false, ◌&&◌, eqb, leb, List, [], ◌∷◌, length, refl, sym, ap, ◌∙◌, subst, inl, inr, arith, ne_eqb}
 use Rattle.std.proofs.lemmas.Bool.{cases_eq, cases_lt}
 use Rattle.std.proofs.lemmas.Bool.Decides.{nat_tests}
 use Rattle.ad_events.specs.Sums.{bit}
-use Rattle.ad_events.specs.Owed.{State, Seat, Away, Inside, Paying, Step, Open, Push, Settle, Enter, Leave, Pay, seat_at, count_of, last_batch, slot_share, IsInside, IsPaying, MayStep, takes_from, due_of, answer, after, paid_by, left, opening, run, MayRun}
-use Rattle.ad_events.specs.OwedLaws.{IsSized, answers_zero, zeros, OneZero, NoZero, TakesToZero, ZeroStays}
-use Rattle.ad_events.proofs.Invariant.{Holds}
+use Rattle.ad_events.specs.Owed.{State, Paying, Step, Open, Push, Settle, Enter, Leave, Pay, seat_at, count_of, last_batch, slot_share, MayStep, takes_from, due_of, answer, after, paid_by, left, opening, run, MayRun}
+use Rattle.ad_events.specs.OwedInvariant.{IsSized, Holds}
+use Rattle.ad_events.specs.OwedLaws.{answers_zero, zeros, OneZero, NoZero, TakesToZero, ZeroStays}
 use Rattle.ad_events.proofs.OpenStep.{open-last, open-count, open-count_new}
 use Rattle.ad_events.proofs.PushStep.{push-last, push-count}
 use Rattle.ad_events.proofs.SettleStep.{settle-last, settle-count_other, settle-positive}
 use Rattle.ad_events.proofs.PayStep.{pay-opened, pay-within, pay-last, pay-count_other}
-use Rattle.ad_events.proofs.Runs.{Holds-step, Holds-opening}
+use Rattle.ad_events.proofs.OwedRuns.{Holds-step, Holds-opening}
 
 -- 1 where the last batch has number `last`, batch b is opened and its count is zero, else 0
 abbrev zero_now : ℕ → ℕ → ℕ → ℕ
@@ -53,32 +53,25 @@ zero_in w b = zero_now (last_batch w) b (count_of w b)
 no_take : (w : State) (b : ℕ) (x : Step) → 0 < b → takes_from w x ≡ 0 → bit (answers_zero w b x) ≡ 0
 no_take w b x positive e = ap (λ c. bit (eqb c b && eqb (answer w x) 0)) e ∙ ap (λ t. bit (t && eqb (answer w x) 0)) (ne_eqb 0 b (omega arith))
 
-leave-zero : (w : State) (i b : ℕ) (seat : Seat) → IsInside seat → zero_in (left w i seat) b ≡ zero_in w b
-leave-zero w i b Away inside = absurd inside
-leave-zero w i b (Inside s entry) inside = refl
-leave-zero w i b (Paying s paid last) inside = absurd inside
-
-pay-zero : (w : State) (h : Holds w) (i b : ℕ) (seat : Seat) → 0 < b → i < length w.seats → seat_at w i ≡ seat → IsPaying seat
-    → bit (eqb (due_of seat) b && eqb (count_of (paid_by w i seat) (due_of seat)) 0) + zero_in w b ≡ zero_in (paid_by w i seat) b
-pay-zero w h i b Away positive l is paying = absurd paying
-pay-zero w h i b (Inside s entry) positive l is paying = absurd paying
-pay-zero w h i b (Paying s paid last) positive l is paying =
+pay-zero : (w : State) (h : Holds w) (i b s paid last : ℕ) → 0 < b → seat_at w i ≡ Paying s paid last
+    → bit (eqb (paid + 1) b && eqb (count_of (paid_by w i (Paying s paid last)) (paid + 1)) 0) + zero_in w b ≡ zero_in (paid_by w i (Paying s paid last)) b
+pay-zero w h i b s paid last positive is =
     let v = paid_by w i (Paying s paid last) in
-    let same = ap (λ n. zero_now n b (count_of v b)) (pay-last w h i s paid last l is) in
-    let opened = pay-opened w h i s paid last l is in
+    let same = ap (λ n. zero_now n b (count_of v b)) (pay-last w h i s paid last is) in
+    let opened = pay-opened w h i s paid last is in
     elim (cases_eq b (paid + 1)) [
       | inl e ↦
           taken_here (last_batch w) b (paid + 1) (count_of v b) (count_of w b) (count_of v (paid + 1)) e opened.within
-          (let some = pay-within w h i s paid last l is in let at = ap (count_of w) e in omega arith) (ap (count_of v) (sym e)) ∙ sym same
+          (let some = pay-within w h i s paid last is in let at = ap (count_of w) e in omega arith) (ap (count_of v) (sym e)) ∙ sym same
       | inr apart ↦
           taken_other (last_batch w) b (paid + 1) (count_of v b) (count_of w b) (count_of v (paid + 1)) apart
-          (λ _. pay-count_other w h i s paid last l is b positive apart) ∙ sym same
+          (λ _. pay-count_other w h i s paid last is b positive apart) ∙ sym same
     ]
 
 zero_step : (w : State) → Holds w → (b : ℕ) → 0 < b → (x : Step) → MayStep w x → bit (answers_zero w b x) + zero_in w b ≡ zero_in (after w x) b
 zero_step w h b positive Open may =
     let none = no_take w b Open positive refl in
-    let new = fresh (last_batch w) b (count_of (after w Open) b) (count_of w b) (length w.slots) h.sized.some
+    let new = fresh (last_batch w) b (count_of (after w Open) b) (count_of w b) (length w.slots) h.sized.some_slot
     (λ within. open-count w h may b (record { positive = positive; within = within }))
     (λ e. ap (count_of (after w Open)) e ∙ open-count_new w h may) in
     let last = ap (λ n. zero_now n b (count_of (after w Open) b)) (open-last w h may) in omega arith
@@ -100,8 +93,10 @@ zero_step w h b positive (Settle s) may =
 zero_step w h b positive (Enter i s) may = let none = no_take w b (Enter i s) positive refl in omega arith
 zero_step w h b positive (Leave i) may =
     let none = no_take w b (Leave i) positive refl in
-    let same = leave-zero w i b (seat_at w i) may.1 in omega arith
-zero_step w h b positive (Pay i) may = pay-zero w h i b (seat_at w i) positive may.0 refl may.1
+    let same = ap (λ seat. zero_in (left w i seat) b) may.2 in omega arith
+zero_step w h b positive (Pay i) may =
+    subst (λ seat. bit (eqb (due_of seat) b && eqb (count_of (paid_by w i seat) (due_of seat)) 0) + zero_in w b ≡ zero_in (paid_by w i seat) b) (sym may.3)
+    (pay-zero w h i b may.0 may.1 may.2 positive may.3)
 
 -- the zeros answered in a run are those that are there at its end and weren't at its start
 zeros-run : (w : State) → Holds w → (b : ℕ) → 0 < b → (xs : List Step) → MayRun w xs → zeros w b xs + zero_in w b ≡ zero_in (run w xs) b
@@ -111,7 +106,7 @@ zeros-run w h b positive (x ∷ xs) may =
     let rest = zeros-run (after w x) (Holds-step w h x may.0) b positive xs may.1 in omega arith
 
 opening-holds : (slots seats : ℕ) → IsSized slots seats → Holds (opening slots seats)
-opening-holds slots seats sized = Holds-opening slots seats (record { some = sized.some_slot; few = sized.few_slots }) sized.few_seats
+opening-holds slots seats sized = Holds-opening slots seats sized
 
 at_opening : (slots seats b : ℕ) → 0 < b → zero_in (opening slots seats) b ≡ 0
 at_opening slots seats b positive = grind (arith, nat_tests)
@@ -156,19 +151,12 @@ zero_stays w h more may b opened zero =
 
 -- ---- the step that makes a count zero
 
-leave-count : (w : State) (i b : ℕ) (seat : Seat) → IsInside seat → count_of (left w i seat) b ≡ count_of w b
-leave-count w i b Away inside = absurd inside
-leave-count w i b (Inside s entry) inside = refl
-leave-count w i b (Paying s paid last) inside = absurd inside
-
-pay-to-zero : (w : State) (h : Holds w) (i b : ℕ) (seat : Seat) → 0 < b → i < length w.seats → seat_at w i ≡ seat → IsPaying seat → count_of w b ≢ 0
-    → count_of (paid_by w i seat) b ≡ 0 → (due_of seat ≡ b) × (count_of (paid_by w i seat) (due_of seat) ≡ 0)
-pay-to-zero w h i b Away positive l is paying some zero = absurd paying
-pay-to-zero w h i b (Inside s entry) positive l is paying some zero = absurd paying
-pay-to-zero w h i b (Paying s paid last) positive l is paying some zero =
+pay-to-zero : (w : State) (h : Holds w) (i b s paid last : ℕ) → 0 < b → seat_at w i ≡ Paying s paid last → count_of w b ≢ 0
+    → count_of (paid_by w i (Paying s paid last)) b ≡ 0 → (paid + 1 ≡ b) × (count_of (paid_by w i (Paying s paid last)) (paid + 1) ≡ 0)
+pay-to-zero w h i b s paid last positive is some zero =
     elim (cases_eq b (paid + 1)) [
       | inl e ↦ (sym e, ap (count_of (paid_by w i (Paying s paid last))) (sym e) ∙ zero)
-      | inr apart ↦ absurd (some (sym (pay-count_other w h i s paid last l is b positive apart) ∙ zero))
+      | inr apart ↦ absurd (some (sym (pay-count_other w h i s paid last is b positive apart) ∙ zero))
     ]
 
 pub takes_to_zero : (w : State) → Holds w → TakesToZero w
@@ -180,5 +168,7 @@ takes_to_zero w h (Settle s) may b opened some zero =
       | inr apart ↦ absurd (some (sym (settle-count_other w h s may b opened.positive apart) ∙ zero))
     ]
 takes_to_zero w h (Enter i s) may b opened some zero = absurd (some zero)
-takes_to_zero w h (Leave i) may b opened some zero = absurd (some (sym (leave-count w i b (seat_at w i) may.1) ∙ zero))
-takes_to_zero w h (Pay i) may b opened some zero = let paid = pay-to-zero w h i b (seat_at w i) opened.positive may.0 refl may.1 some zero in (tt, paid.0, paid.1)
+takes_to_zero w h (Leave i) may b opened some zero = absurd (some (sym (ap (λ seat. count_of (left w i seat) b) may.2) ∙ zero))
+takes_to_zero w h (Pay i) may b opened some zero =
+    let paid = pay-to-zero w h i b may.0 may.1 may.2 opened.positive may.3 some (ap (λ seat. count_of (paid_by w i seat) b) (sym may.3) ∙ zero) in
+    (tt, ap due_of may.3 ∙ paid.0, ap (λ seat. count_of (paid_by w i seat) (due_of seat)) may.3 ∙ paid.1)

@@ -1,8 +1,15 @@
 pub mod Sums
+pub mod Functions
+pub mod Runs
 pub mod Mapping
 pub mod Inside
 pub mod World
 pub mod WorldLaws
 pub mod Owed
+pub mod OwedInvariant
 pub mod OwedLaws
 pub mod OwedExamples
+pub mod Reclaim
+pub mod ReclaimInvariant
+pub mod ReclaimLaws
+pub mod ReclaimExamples

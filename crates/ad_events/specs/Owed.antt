@@ -1,7 +1,7 @@
 -- What a seat owes, in the numbered form: seats enter and leave slots, one mover pushes batches on the slots, and a count
 -- for each batch says what the batch is still owed.
-use Rattle.std.specs.Prelude.{◌≡◌, ℕ, ◌+◌, ◌-◌, ◌*◌, ◌^◌, ◌<◌, ◌≤◌, Bool, true, false, ◌&&◌, List, [], ◌∷◌, ◌++◌, length, replicate, slice_index_or, slice_set, nat_lt, nat_le, ◌==◌, if◌then◌else◌, count_by}
-use Rattle.std.specs.List.{list_all, prefix_len}
+use Rattle.std.specs.Prelude.{◌≡◌, ◌⊎◌, ℕ, ◌+◌, ◌-◌, ◌*◌, ◌^◌, ◌<◌, ◌≤◌, Bool, true, false, ◌&&◌, List, [], ◌∷◌, ◌++◌, length, replicate, slice_index_or, slice_set, nat_lt, nat_le, ◌==◌, if◌then◌else◌, count_by, fold}
+use Rattle.ad_events.specs.Runs.{AllMay}
 use Rattle.ad_events.specs.Sums.{sum_below}
 
 -- ---- the state
@@ -110,6 +110,10 @@ slot_of (Paying slot paid last) = slot
 abbrev pub owes : State → ℕ → Seat → Bool
 owes w b seat = owes_on (pushed_on w (slot_of seat)) b (slot_of seat) seat
 
+-- batch b can't be done before seat i leaves: it isn't opened, or hasn't passed the seat's slot, or the seat owes it
+abbrev pub WaitsFor : State → ℕ → ℕ → Type 0
+WaitsFor w b i = ¬ IsOpened w b ⊎ ((passage_of w b (slot_of (seat_at w i)) ≡ Ahead) ⊎ (owes w b (seat_at w i) ≡ true))
+
 -- what a slot stands for in a count, in the high half of the word
 abbrev pub slot_share : ℕ
 slot_share = 2 ^ 32
@@ -139,50 +143,55 @@ pub data Step : Type 0 where
   Leave : (seat : ℕ) → Step
   Pay : (seat : ℕ) → Step
 
-abbrev pub is_settled : Passage → Bool
-is_settled Ahead = false
-is_settled (Pushed found) = false
-is_settled Settled = true
-
+-- the batch was pushed on the slot
 abbrev pub is_passed : Passage → Bool
 is_passed Ahead = false
 is_passed (Pushed found) = true
 is_passed Settled = true
 
+-- batch b is pushed and settled on every slot
+abbrev pub SettledEverywhere : State → ℕ → Type 0
+SettledEverywhere w b = (s : ℕ) → s < length w.slots → passage_of w b s ≡ Settled
+
 -- the mover isn't inside a batch: each batch is settled on every slot
-abbrev pub is_idle : State → Bool
-is_idle w = list_all (λ batch. list_all is_settled batch.passages) w.batches
+abbrev pub IsIdle : State → Type 0
+IsIdle w = (b : ℕ) → IsOpened w b → SettledEverywhere w b
 
--- the slot on which the mover's batch is to be pushed next: those before it are passed
-abbrev pub next_slot : State → ℕ
-next_slot w = prefix_len is_passed (batch_at w (last_batch w)).passages
-
--- this seat may leave
+-- the seat is inside a slot
 abbrev pub IsInside : Seat → Type 0
-IsInside Away = ⊥
-IsInside (Inside slot entry) = Unit {0}
-IsInside (Paying slot paid last) = ⊥
+IsInside seat = (slot : ℕ) × (entry : ℕ) × (seat ≡ Inside slot entry)
 
--- this seat has something to pay
+-- the seat has left its slot, and has something to pay
 abbrev pub IsPaying : Seat → Type 0
-IsPaying Away = ⊥
-IsPaying (Inside slot entry) = ⊥
-IsPaying (Paying slot paid last) = Unit {0}
+IsPaying seat = (slot : ℕ) × (paid : ℕ) × (last : ℕ) × (seat ≡ Paying slot paid last)
 
--- this passage may be settled
-abbrev pub IsPushed : Passage → Type 0
-IsPushed Ahead = ⊥
-IsPushed (Pushed found) = Unit {0}
-IsPushed Settled = ⊥
+-- the mover's batch may be pushed on slot s: it isn't pushed there, and has passed each slot before
+pub record MayPush (w : State) (s : ℕ) : Type 0 where
+  pub opened : 0 < last_batch w
+  pub slot : s < length w.slots
+  pub ahead : passage_of w (last_batch w) s ≡ Ahead
+  pub before : (t : ℕ) → t < s → is_passed (passage_of w (last_batch w) t) ≡ true
+
+-- the mover's batch may be settled on slot s: it is pushed there
+pub record MaySettle (w : State) (s : ℕ) : Type 0 where
+  pub opened : 0 < last_batch w
+  pub slot : s < length w.slots
+  pub pushed : (found : ℕ) × (passage_of w (last_batch w) s ≡ Pushed found)
+
+-- seat i may enter slot s: it is away
+pub record MayEnter (w : State) (i s : ℕ) : Type 0 where
+  pub seat : i < length w.seats
+  pub slot : s < length w.slots
+  pub away : seat_at w i ≡ Away
 
 -- the step may be made
 abbrev pub MayStep : State → Step → Type 0
-MayStep w Open = is_idle w ≡ true
-MayStep w (Push s) = (0 < last_batch w) × (s < length w.slots) × (s ≡ next_slot w)
-MayStep w (Settle s) = (0 < last_batch w) × (s < length w.slots) × IsPushed (passage_of w (last_batch w) s)
-MayStep w (Enter i s) = (i < length w.seats) × (s < length w.slots) × (seat_at w i ≡ Away)
-MayStep w (Leave i) = (i < length w.seats) × IsInside (seat_at w i)
-MayStep w (Pay i) = (i < length w.seats) × IsPaying (seat_at w i)
+MayStep w Open = IsIdle w
+MayStep w (Push s) = MayPush w s
+MayStep w (Settle s) = MaySettle w s
+MayStep w (Enter i s) = MayEnter w i s
+MayStep w (Leave i) = IsInside (seat_at w i)
+MayStep w (Pay i) = IsPaying (seat_at w i)
 
 -- a seat that has paid up to `paid` of what it owes up to `last`
 abbrev pub to_pay : ℕ → ℕ → ℕ → Seat
@@ -254,13 +263,11 @@ opening slots seats = record { slots = replicate slots (record { inside = 0; pus
 
 -- the state after a list of steps
 abbrev pub run : State → List Step → State
-run w [] = w
-run w (x ∷ xs) = run (after w x) xs
+run w steps = fold after w steps
 
 -- each step of the list may be made where it stands
 abbrev pub MayRun : State → List Step → Type 0
-MayRun w [] = Unit {0}
-MayRun w (x ∷ xs) = MayStep w x × MayRun (after w x) xs
+MayRun w steps = AllMay MayStep after w steps
 
 -- the numbers that the steps of a list give
 abbrev pub answers : State → List Step → List ℕ

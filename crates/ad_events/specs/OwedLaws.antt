@@ -1,17 +1,19 @@
 -- The laws of what a seat owes, in the numbered form: what holds of every state that some list of steps reaches.
-use Rattle.std.specs.Prelude.{◌≡◌, ◌≢◌, ◌↔◌, ◌⊎◌, ℕ, ◌+◌, ◌-◌, ◌*◌, ◌^◌, ◌<◌, ◌≤◌, Bool, true, false, ◌&&◌, ◌==◌, List, [], ◌∷◌, length, count_by}
+use Rattle.std.specs.Prelude.{◌≡◌, ◌≢◌, ◌↔◌, ℕ, ◌+◌, ◌-◌, ◌*◌, ◌^◌, ◌<◌, ◌≤◌, Bool, true, false, ◌&&◌, ◌==◌, List, [], ◌∷◌, length, count_by}
 use Rattle.ad_events.specs.Sums.{bit}
-use Rattle.ad_events.specs.Owed.{State, Away, Inside, Settled, Step, Open, Push, Settle, Enter, Leave, Pay, seat_at, inside_of, pushed_on, count_of, passage_of, last_batch, IsOpened, owes, owed_of, slot_share, found_by, due_of, slot_of, is_inside, is_passed, is_idle, MayStep, takes_from, answer, after, opening, run, MayRun}
-
--- a table has some slots, not too many for a count, and fewer seats than half a word counts
-pub record IsSized (slots seats : ℕ) : Type 0 where
-  pub some_slot : 0 < slots
-  pub few_slots : slots ≤ 2 ^ 31
-  pub few_seats : seats < 2 ^ 32
+use Rattle.ad_events.specs.Owed.{State, Away, Inside, Step, Open, Push, Settle, Enter, Leave, Pay, seat_at, inside_of, pushed_on, count_of, passage_of, last_batch, IsOpened, SettledEverywhere, IsIdle, owes, WaitsFor, owed_of, slot_share, found_by, due_of, slot_of, is_inside, is_passed, MayStep, takes_from, answer, after, opening, run, MayRun}
+use Rattle.ad_events.specs.OwedInvariant.{IsSized, Holds}
 
 -- the law holds of the state after every list of steps from the opening, of which each may be made where it stands
 abbrev pub AfterEveryRun : (State → Type 0) → Type 0
 AfterEveryRun Law = (slots seats : ℕ) (steps : List Step) → IsSized slots seats → MayRun (opening slots seats) steps → Law (run (opening slots seats) steps)
+
+-- the invariant holds at each opening, and each step that may be made keeps it
+abbrev pub HoldsAtOpening : Type 0
+HoldsAtOpening = (slots seats : ℕ) → IsSized slots seats → Holds (opening slots seats)
+
+abbrev pub StepsKeep : Type 0
+StepsKeep = (w : State) → Holds w → (x : Step) → MayStep w x → Holds (after w x)
 
 -- the count of each opened batch is the sum of the shares of the slots
 abbrev pub CountsAreOwed : State → Type 0
@@ -43,13 +45,9 @@ pub record WordsFit (w : State) : Type 0 where
   pub inside : (s : ℕ) → s < length w.slots → inside_of w s < 2 ^ 32
   pub words : last_batch w < 2 ^ 32 → (s : ℕ) → s < length w.slots → slot_word w s < 2 ^ 64
 
--- the batch is pushed and settled on every slot
-abbrev pub SettledEverywhere : State → ℕ → Type 0
-SettledEverywhere w b = (s : ℕ) → s < length w.slots → passage_of w b s ≡ Settled
-
 -- no seat owes the batch
 abbrev pub NobodyOwes : State → ℕ → Type 0
-NobodyOwes w b = (i : ℕ) → i < length w.seats → owes w b (seat_at w i) ≡ false
+NobodyOwes w b = (i : ℕ) → owes w b (seat_at w i) ≡ false
 
 -- a batch's count is zero exactly where it is settled on every slot and nobody owes it
 abbrev pub ZeroIsDone : State → Type 0
@@ -98,16 +96,16 @@ pub record SlotsTell (w : State) : Type 0 where
   pub inside : (s : ℕ) → s < length w.slots → inside_of w s ≡ count_by (is_inside s) w.seats
   pub passed : (b s : ℕ) → IsOpened w b → s < length w.slots → (is_passed (passage_of w b s) ≡ true) ↔ (b ≤ pushed_on w s)
 
--- a seat that is inside, and entered its slot before batch b was pushed there, owes the batch, or the batch hasn't passed
--- its slot; so its count isn't zero
+-- a batch, opened or not, waits for a seat that is inside exactly where the seat's entry number is below it; and the count
+-- of an opened batch that waits for a seat inside isn't zero
 abbrev pub InsideIsCounted : State → Type 0
-InsideIsCounted w = (i s entry b : ℕ) → i < length w.seats → seat_at w i ≡ Inside s entry → IsOpened w b → entry < b
-    → ((is_passed (passage_of w b s) ≡ false) ⊎ (owes w b (seat_at w i) ≡ true)) × (count_of w b ≢ 0)
+InsideIsCounted w = (i s entry b : ℕ) → seat_at w i ≡ Inside s entry → 0 < b
+    → (WaitsFor w b i ↔ (entry < b)) × (IsOpened w b → WaitsFor w b i → count_of w b ≢ 0)
 
 -- each seat is away: none is between its enter and its last pay
 abbrev pub AllAway : State → Type 0
-AllAway w = (i : ℕ) → i < length w.seats → seat_at w i ≡ Away
+AllAway w = (i : ℕ) → seat_at w i ≡ Away
 
 -- where each seat is away and the mover isn't inside a batch, every opened batch's count is zero
 abbrev pub QuietIsZero : State → Type 0
-QuietIsZero w = AllAway w → is_idle w ≡ true → (b : ℕ) → IsOpened w b → count_of w b ≡ 0
+QuietIsZero w = AllAway w → IsIdle w → (b : ℕ) → IsOpened w b → count_of w b ≡ 0

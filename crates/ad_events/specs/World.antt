@@ -160,6 +160,12 @@ pub record WorldFits (current : List ℕ) (mappings : map.FinMap nat_cmp Mapping
   pub apart : (worker : ℕ) → set.contains entered worker ≡ true → map.get inside worker ≡ None
   pub held : (worker p : ℕ) → map.get inside worker ≡ Some p → MayBeInside (map.get mappings p)
 
+-- the invariant of worlds: some list of current mappings, one for each module, fits the world
+pub record IsWorld (w : EventWorld) : Type 0 where
+  pub current : List ℕ
+  pub same : w.modules ≡ length current
+  pub fits : WorldFits current w.mappings w.inside w.entered
+
 -- the list of current mappings after an event
 abbrev pub current_after : List ℕ → Event → List ℕ
 current_after current (Enter worker) = current

@@ -1,5 +1,5 @@
 -- The laws of worlds: what holds of every world that some list of lawful events reaches.
-use Rattle.std.specs.Prelude.{◌≡◌, ◌≢◌, ◌⊎◌, ℕ, ◌+◌, ◌<◌, ◌≤◌, Bool, true, false, ◌==◌, List, [], ◌∷◌, Option, Some, None, count_by}
+use Rattle.std.specs.Prelude.{◌≡◌, ◌≢◌, ◌⊎◌, ℕ, ◌+◌, ◌<◌, ◌≤◌, Bool, true, false, ◌==◌, List, [], ◌∷◌, Option, Some, None, count_by, length, slice_index, fold}
 use Rattle.std.specs.FinMap as map
 use Rattle.std.specs.FinSet as set
 use Rattle.ad_events.specs.declared.mapping.Status.{Status}
@@ -7,22 +7,33 @@ use Rattle.ad_events.specs.declared.mapping.Status.TheVariants.{Fresh, Current, 
 use Rattle.ad_events.specs.declared.mapping.Mapping.{Mapping}
 use Rattle.ad_events.specs.declared.event.Event.{Event}
 use Rattle.ad_events.specs.declared.event.Event.TheVariants.{Enter, Read, Leave, Map, Switch, Retire, Unmap}
+use Rattle.ad_events.specs.Runs.{AllMay}
 use Rattle.ad_events.specs.Mapping.{rank_of}
 use Rattle.ad_events.specs.World.{EventWorld, mapping_of, status_of, IsLawful, effect, opening, AllDiffer, MayBeInside}
 
 -- the world after a list of events
 abbrev pub run : EventWorld → List Event → EventWorld
-run w [] = w
-run w (e ∷ es) = run (effect w e) es
+run w events = fold effect w events
 
 -- each event of the list is lawful where it stands
 abbrev pub AllLawful : EventWorld → List Event → Type 0
-AllLawful w [] = Unit {0}
-AllLawful w (e ∷ es) = IsLawful w e × AllLawful (effect w e) es
+AllLawful w events = AllMay IsLawful effect w events
 
 -- the law holds of the world after every list of lawful events from an opening
 abbrev pub AfterAllEvents : (EventWorld → Type 0) → Type 0
 AfterAllEvents Law = (workers : ℕ) (current : List ℕ) (events : List Event) → AllDiffer current → AllLawful (opening workers current) events → Law (run (opening workers current) events)
+
+-- what the world at the opening has: each mapping given, current in the module at its place, no other mapping, and nobody
+-- that has entered or is inside
+pub record OpeningHas (workers : ℕ) (current : List ℕ) : Type 0 where
+  pub given : (m : ℕ) → m < length current → map.get (opening workers current).mappings (slice_index current m) ≡ Some (mapping_of m Current)
+  pub no_other : (p : ℕ) (x : Mapping) → map.get (opening workers current).mappings p ≡ Some x → (m : ℕ) × (m < length current) × (slice_index current m ≡ p) × (x ≡ mapping_of m Current)
+  pub nobody_entered : (worker : ℕ) → set.contains (opening workers current).entered worker ≡ false
+  pub nobody_inside : (worker : ℕ) → map.get (opening workers current).inside worker ≡ None
+
+-- at every opening with different mappings
+abbrev pub AtEveryOpening : Type 0
+AtEveryOpening = (workers : ℕ) (current : List ℕ) → AllDiffer current → OpeningHas workers current
 
 -- mapping p is the current mapping of module m
 abbrev pub IsCurrent : EventWorld → ℕ → ℕ → Type 0

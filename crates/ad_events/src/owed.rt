@@ -3,28 +3,34 @@
 //! functions here are its laws, over every list of steps from the opening, and at the end three computed examples.
 ghost use Rattle.std.specs.Prelude.{◌≡◌, ℕ, List, true};
 ghost use Rattle.ad_events.specs.Owed.{answers, count_of, opening, owed_of, owes, run, seat_at, MayRun};
-ghost use Rattle.ad_events.specs.OwedLaws.{AfterEveryRun, CountsAreOwed, InsideIsCounted, NothingBelowZero, NoZero, OneZero, QuietIsZero, SlotsTell, TakesToZero, WordsFit, ZeroIsDone, ZeroStays};
+ghost use Rattle.ad_events.specs.OwedLaws.{AfterEveryRun, CountsAreOwed, HoldsAtOpening, InsideIsCounted, NothingBelowZero, NoZero, OneZero, QuietIsZero, SlotsTell, StepsKeep, TakesToZero, WordsFit, ZeroIsDone, ZeroStays};
 ghost use Rattle.ad_events.specs.OwedExamples.{entered_between, nobody_between, one_owes, one_owes_steps, paid_entry_number, schedule, schedule_answers};
 
+/// The invariant holds at the opening, and each step that may be made keeps it.
+pub fn law_owed_steps_keep()
+    ensures opening { HoldsAtOpening }
+    ensures step { StepsKeep }
+{}
+
 /// At every moment the count of each opened batch is the sum of the shares of the slots.
-pub fn counts_are_owed()
+pub fn law_counts_are_owed()
     ensures counted { AfterEveryRun CountsAreOwed }
 {}
 
 /// No subtraction goes below zero, and no sum reaches 2^64, with at most 2^31 slots and fewer than 2^32 seats. Of a slot's
 /// word that holds while fewer than 2^32 batches were opened.
-pub fn words_hold_the_numbers()
+pub fn law_words_hold_the_numbers()
     ensures differences { AfterEveryRun NothingBelowZero }
     ensures sums { AfterEveryRun WordsFit }
 {}
 
 /// The count of a batch is zero exactly where the batch was pushed and settled on every slot and nobody owes it.
-pub fn zero_is_done()
+pub fn law_zero_is_done()
     ensures done { AfterEveryRun ZeroIsDone }
 {}
 
 /// The count of a batch becomes zero in exactly one step, a settle or a pay, and stays zero.
-pub fn zero_comes_once()
+pub fn law_zero_comes_once()
     ensures one { OneZero }
     ensures none { NoZero }
     ensures step { AfterEveryRun TakesToZero }
@@ -33,17 +39,18 @@ pub fn zero_comes_once()
 
 /// A slot's number inside is that of the seats inside it, and a batch has passed the slot exactly where it is none above
 /// the last one pushed there.
-pub fn slots_tell()
+pub fn law_slots_tell()
     ensures told { AfterEveryRun SlotsTell }
 {}
 
-/// A seat that is inside, and entered its slot before a batch was pushed there, keeps the count of the batch above zero.
-pub fn inside_is_counted()
+/// A batch that comes after a seat's entry number waits for the seat while it is inside: it isn't opened, or hasn't passed
+/// the seat's slot, or the seat owes it; and its count isn't zero.
+pub fn law_inside_is_counted()
     ensures counted { AfterEveryRun InsideIsCounted }
 {}
 
 /// Where no seat is between its enter and its last pay, and the mover isn't inside a batch, nothing is owed.
-pub fn quiet_is_zero()
+pub fn law_quiet_is_zero()
     ensures zero { AfterEveryRun QuietIsZero }
 {}
 

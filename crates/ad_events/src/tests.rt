@@ -1,5 +1,5 @@
 //! The worked row of a world, and each public call once.
-use crate::{Event, World, laws, owed};
+use crate::{Event, World, laws, owed, reclaim, reclaim_examples};
 use std::test::Fail;
 
 /// One worker, whose module 0 has mapping 1: mapping 1 is unmapped once, and only after the worker has left it.
@@ -40,20 +40,42 @@ fn worked_row(rt: HostRuntime) -> Result<(), Fail> {
 /// The laws are calls like any other.
 #[test]
 fn laws_are_called() {
-    laws::one_current();
-    laws::statuses_go_on();
-    laws::none_gone_inside();
-    laws::entered_is_apart();
-    laws::gone_once();
+    laws::law_opening_has_the_given();
+    laws::law_one_current();
+    laws::law_statuses_go_on();
+    laws::law_none_gone_inside();
+    laws::law_entered_is_apart();
+    laws::law_gone_once();
     laws::worked_row_is_lawful();
-    owed::counts_are_owed();
-    owed::words_hold_the_numbers();
-    owed::zero_is_done();
-    owed::zero_comes_once();
-    owed::slots_tell();
-    owed::inside_is_counted();
-    owed::quiet_is_zero();
+    owed::law_owed_steps_keep();
+    owed::law_counts_are_owed();
+    owed::law_words_hold_the_numbers();
+    owed::law_zero_is_done();
+    owed::law_zero_comes_once();
+    owed::law_slots_tell();
+    owed::law_inside_is_counted();
+    owed::law_quiet_is_zero();
     owed::schedule_of_two();
     owed::settle_comes_after_push();
     owed::entry_number_is_not_owed();
+    reclaim::law_steps_keep();
+    reclaim::law_runs_both();
+    reclaim::law_in_is_inside();
+    reclaim::law_batch_is_told();
+    reclaim::law_pinned();
+    reclaim::law_zero_is_the_right();
+    reclaim::law_nothing_is_left();
+    reclaim::law_quiet_is_gone();
+    reclaim_examples::schedule_of_three();
+    reclaim_examples::retired_under_a_worker();
+    reclaim_examples::switch_unmaps_the_old();
+    reclaim_examples::settle_before_push();
+    reclaim_examples::entry_number_is_paid();
+    reclaim_examples::leave_frees_unpaid();
+    reclaim_examples::zero_is_put_off();
+    reclaim_examples::batch_is_freed_twice();
+    reclaim_examples::another_batch_is_freed();
+    reclaim_examples::read_before_counted();
+    reclaim_examples::pay_before_leave();
+    reclaim_examples::settle_one_slot_fewer();
 }

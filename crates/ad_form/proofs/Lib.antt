@@ -2,4 +2,3 @@ pub mod Appends
 pub mod File
 pub mod FormImage
 pub mod OneModule
-pub mod Zeros

@@ -10,15 +10,27 @@ ghost use Rattle.ad_form.specs.Object.{IsText};
 
 use crate::read::Module;
 use crate::write::put_zeros;
-use ad_base::{Export, Image, Name, OutOfMemory, PAGE_BYTES, Place, Sequence};
+use ad_base::{
+    Export, Image, LOCAL_PAGES, Name, OutOfMemory, PAGE_BYTES, Place, STUB_PAGES, Sequence,
+    TABLE_PAGES,
+};
 use std::alloc::Global;
 
+/// Pages of the text of such a module.
+const TEXT_PAGES: u16 = 1;
+
+/// Bytes of the text and of the stubs behind it.
+const CODE_BYTES: u64 = (TEXT_PAGES + STUB_PAGES) as u64 * PAGE_BYTES;
+
+/// Bytes of the stubs of the immovable part.
+const FIXED_CODE_BYTES: u64 = STUB_PAGES as u64 * PAGE_BYTES;
+
 /// Pages of the immovable part of such a module: the stub page and the fixed table.
-pub const FIXED_PAGES: u16 = 2;
+pub const FIXED_PAGES: u16 = STUB_PAGES + TABLE_PAGES;
 
 /// Pages of the movable part of such a module: the text, the stub page, the fixed table and the local
 /// area.
-pub const MOVABLE_PAGES: u16 = 4;
+pub const MOVABLE_PAGES: u16 = TEXT_PAGES + STUB_PAGES + TABLE_PAGES + LOCAL_PAGES;
 
 /// The image of a module, whose immovable part lies at this place. It fails for want of memory alone.
 pub fn image_of(alloc: Global, module: Module, fixed: Place) -> Result<Image, OutOfMemory>
@@ -26,13 +38,13 @@ pub fn image_of(alloc: Global, module: Module, fixed: Place) -> Result<Image, Ou
     ensures { IfOk result (λ image. image ≡ form_image «module» fixed) }
 {
     let Module { text, name } = module;
-    let padding = (2 * PAGE_BYTES - text.len()) as usize;
+    let padding = (CODE_BYTES - text.len()) as usize;
     let mut code = text.into_vec();
     put_zeros(&mut code, padding)?;
     let mut fixed_code = Vec::new(alloc);
-    put_zeros(&mut fixed_code, PAGE_BYTES as usize)?;
+    put_zeros(&mut fixed_code, FIXED_CODE_BYTES as usize)?;
     Ok(Image {
-        text_pages: 1,
+        text_pages: TEXT_PAGES,
         read_pages: 0,
         data_pages: 0,
         code: Sequence::of(code),

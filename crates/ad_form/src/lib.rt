@@ -1,6 +1,7 @@
 //! The one form of a module's file: its reader, its writer, and the image of such a module.
 #![tactic(auto)]
 
+mod elf;
 mod image;
 mod read;
 #[cfg(test)]

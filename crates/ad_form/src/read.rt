@@ -5,19 +5,24 @@ ghost use Rattle.ad_base.specs.ExportName.{IsExportName};
 ghost use Rattle.ad_form.specs.declared.read.Module.{Module};
 ghost use Rattle.ad_form.specs.Object.{IsModule, IsText};
 
-use crate::write::{HEADER_BYTES, SYMBOLS_BYTES, TABLE_BYTES, symbols_at, written};
-use ad_base::{Name, OutOfMemory, PAGE_BYTES, Sequence, field_u64, is_export_name};
+use crate::elf::{FILE_HEADER_BYTES, SECTION_HEADER_BYTES, SIZE_AT};
+use crate::write::{
+    STRINGS_SECTION, SYMBOLS_BYTES, TABLE_BYTES, TEXT_SECTION, symbols_at, written,
+};
+use ad_base::{
+    INSTRUCTION_BYTES, Name, OutOfMemory, PAGE_BYTES, Sequence, field_u64, is_export_name,
+};
 use std::alloc::Global;
 
 /// Bytes of the symbol's name at most.
 const NAME_BYTES: u64 = 128;
 
 /// Where the section table says how many bytes of text there are, counted from its start.
-const TEXT_SIZE_AT: usize = HEADER_BYTES + 32;
+const TEXT_SIZE_AT: usize = TEXT_SECTION as usize * SECTION_HEADER_BYTES + SIZE_AT;
 
 /// Where the section table says how many bytes the strings of the symbols have, counted from its
 /// start.
-const STRINGS_SIZE_AT: usize = 3 * HEADER_BYTES + 32;
+const STRINGS_SIZE_AT: usize = STRINGS_SECTION as usize * SECTION_HEADER_BYTES + SIZE_AT;
 
 /// What the file of a module says: its text and its symbol's name.
 #[derive(Debug, Drop)]
@@ -61,15 +66,19 @@ fn stated_text(bytes: &[u8]) -> Option<&[u8]>
     ensures table { IfSome result (λ text. TABLE_BYTES ≤ length bytes.now) }
     ensures stated { (m : Module) → IsModule bytes.now m → IsSomeAnd result (λ stated. stated.now ≡ m.text) }
 {
-    if bytes.len() < HEADER_BYTES + TABLE_BYTES {
+    if bytes.len() < FILE_HEADER_BYTES + TABLE_BYTES {
         return None;
     }
     let size = field_u64(bytes, (bytes.len() - TABLE_BYTES + TEXT_SIZE_AT) as u64);
-    let room = (bytes.len() - HEADER_BYTES - TABLE_BYTES) as u64;
-    if size < 4 || size > PAGE_BYTES || size % 4 != 0 || size > room {
+    let room = (bytes.len() - FILE_HEADER_BYTES - TABLE_BYTES) as u64;
+    if size < INSTRUCTION_BYTES
+        || size > PAGE_BYTES
+        || size % INSTRUCTION_BYTES != 0
+        || size > room
+    {
         return None;
     }
-    Some(&bytes[HEADER_BYTES..HEADER_BYTES + size as usize])
+    Some(&bytes[FILE_HEADER_BYTES..FILE_HEADER_BYTES + size as usize])
 }
 
 /// The bytes that are the symbol's name in a file of the form with so many bytes of text, if it has

@@ -3,78 +3,114 @@
 ghost use Rattle.std.specs.Prelude.{◌≡◌, ◌+◌, ◌^◌, ◌≤◌, ◌<◌, [], ◌∷◌, ◌++◌, length, OnOk, IfOk};
 ghost use Rattle.byteorder.specs.Endian.{little_bytes};
 ghost use Rattle.ad_base.specs.Image.{zeros};
-ghost use Rattle.ad_form.specs.Object.{file_header, module_file, names_at, next_eight, section_header, section_table, symbol, symbols_at, up_to_eight};
+ghost use Rattle.ad_form.specs.Object.{file_header, function_symbol, header_of_module, identification, module_file, names_at, next_eight, section_header, section_table, strings_header, symbol, symbols_at, symbols_header, text_header, up_to_eight};
 
-use ad_base::{OutOfMemory, PAGE_BYTES};
+use crate::elf::{
+    ELFCLASS64, ELFDATA2LSB, EM_RISCV, ET_REL, EV_CURRENT, FILE_HEADER_BYTES, FileHeader,
+    SECTION_HEADER_BYTES, SHF_ALLOC, SHF_EXECINSTR, SHN_UNDEF, SHT_NULL, SHT_PROGBITS, SHT_STRTAB,
+    SHT_SYMTAB, STB_GLOBAL, STT_FUNC, STV_DEFAULT, SYMBOL_BYTES, SectionHeader, Symbol,
+};
+use ad_base::{INSTRUCTION_BYTES, OutOfMemory, PAGE_BYTES};
 use std::alloc::Global;
 
-/// Bytes of the header of a file, and of the header of a section.
-pub(crate) const HEADER_BYTES: usize = 64;
+/// Sections of a file: the null section, `.text`, `.symtab`, `.strtab` and `.shstrtab`.
+pub(crate) const SECTIONS: u16 = 5;
+
+/// The number of the text.
+pub(crate) const TEXT_SECTION: u16 = 1;
+
+/// The number of the names of the symbols.
+pub(crate) const STRINGS_SECTION: u32 = 3;
+
+/// The number of the names of the sections.
+pub(crate) const NAMES_SECTION: u16 = 4;
 
 /// Bytes of the section table, with which a file of the form ends.
-pub(crate) const TABLE_BYTES: usize = 5 * HEADER_BYTES;
+pub(crate) const TABLE_BYTES: usize = SECTIONS as usize * SECTION_HEADER_BYTES;
 
-/// Bytes of the two symbols (gABI, "Symbol Table").
-pub(crate) const SYMBOLS_BYTES: u64 = 48;
+/// Bytes of the two symbols.
+pub(crate) const SYMBOLS_BYTES: u64 = 2 * SYMBOL_BYTES;
 
-/// The header of a file before the place of its section table (gABI, "ELF Header"): the magic number,
-/// 64-bit, little endian, version 1; relocatable, RISC-V, version 1; no entry and no program headers.
-const HEADER_START: [u8; 40] = [
-    0x7f, b'E', b'L', b'F', 2, 1, 1, 0, 0, 0, 0, 0, 0, 0, 0, 0, 1, 0, 243, 0, 1, 0, 0, 0, 0, 0, 0,
-    0, 0, 0, 0, 0, 0, 0, 0, 0, 0, 0, 0, 0,
+/// The number of the first symbol that other objects see.
+pub(crate) const FIRST_GLOBAL: u32 = 1;
+
+/// The first bytes of a file (gABI, "ELF Identification").
+const IDENTIFICATION: [u8; 16] = [
+    0x7f,
+    b'E',
+    b'L',
+    b'F',
+    ELFCLASS64,
+    ELFDATA2LSB,
+    EV_CURRENT,
+    0,
+    0,
+    0,
+    0,
+    0,
+    0,
+    0,
+    0,
+    0,
 ];
-
-/// The header of a file behind the place of its section table: no flags; its size, no program
-/// headers; the size of a section header, five of them, and the sections' names in section 4.
-const HEADER_END: [u8; 16] = [0, 0, 0, 0, 64, 0, 0, 0, 0, 0, 64, 0, 5, 0, 4, 0];
 
 /// The names of the sections, behind a zero byte and each ended by one.
 const SECTION_NAMES: &[u8] = b"\0.text\0.symtab\0.strtab\0.shstrtab\0";
 
 /// How many bytes these are.
-const SECTION_NAMES_BYTES: u64 = 33;
+pub(crate) const SECTION_NAMES_BYTES: u64 = 33;
 
-/// The type of a section with a part of the program (gABI, "Sections", SHT_PROGBITS).
-const PROGBITS: u32 = 1;
+/// Where the name `.text` begins among them.
+pub(crate) const TEXT_NAME: u32 = 1;
 
-/// The type of a section with symbols (SHT_SYMTAB).
-const SYMTAB: u32 = 2;
+/// Where the name `.symtab` begins among them.
+pub(crate) const SYMTAB_NAME: u32 = 7;
 
-/// The type of a section with strings (SHT_STRTAB).
-const STRTAB: u32 = 3;
+/// Where the name `.strtab` begins among them.
+pub(crate) const STRTAB_NAME: u32 = 15;
 
-/// The flags of a section that is loaded and executed (SHF_ALLOC and SHF_EXECINSTR).
-const TEXT_FLAGS: u64 = 6;
+/// Where the name `.shstrtab` begins among them.
+pub(crate) const SHSTRTAB_NAME: u32 = 23;
 
-/// What a symbol says of a function that other objects see (gABI, "Symbol Table", STB_GLOBAL and
-/// STT_FUNC).
-const GLOBAL_FUNCTION: u8 = 0x12;
-
-/// The header of a section that has no address (gABI, "Sections").
-#[derive(Clone, Copy)]
-struct SectionHeader {
-    name: u32,
-    kind: u32,
-    flags: u64,
-    offset: u64,
-    size: u64,
-    link: u32,
-    info: u32,
-    align: u64,
-    entry_size: u64,
-}
+/// The header of a file of the form, whose section table lies at no place.
+const MODULE_HEADER: FileHeader = FileHeader {
+    kind: ET_REL,
+    machine: EM_RISCV,
+    version: EV_CURRENT as u32,
+    entry: 0,
+    program_headers_at: 0,
+    section_headers_at: 0,
+    flags: 0,
+    header_bytes: FILE_HEADER_BYTES as u16,
+    program_header_bytes: 0,
+    program_headers: 0,
+    section_header_bytes: SECTION_HEADER_BYTES as u16,
+    section_headers: SECTIONS,
+    names_section: NAMES_SECTION,
+};
 
 /// The header of the null section.
 const NULL_SECTION: SectionHeader = SectionHeader {
     name: 0,
-    kind: 0,
+    kind: SHT_NULL,
     flags: 0,
+    address: 0,
     offset: 0,
     size: 0,
     link: 0,
     info: 0,
     align: 0,
     entry_size: 0,
+};
+
+/// The symbol that a table of symbols begins with.
+const NULL_SYMBOL: Symbol = Symbol {
+    name: 0,
+    info: 0,
+    other: STV_DEFAULT,
+    section: SHN_UNDEF,
+    value: 0,
+    size: 0,
 };
 
 /// The file of a module with this text, whose symbol has this name (gABI, "Object Files").
@@ -86,11 +122,11 @@ pub fn written(alloc: Global, text: &[u8], name: &[u8]) -> Result<Vec<u8>, OutOf
     let name_size = name.len() as u64;
     let names_end = names_at(text_size, name_size) + SECTION_NAMES_BYTES;
     let mut file = Vec::new(alloc);
-    put_file_header(&mut file, next_eight(names_end))?;
+    put_module_header(&mut file, next_eight(names_end))?;
     file.extend_from_slice(text)?;
-    pad_to_eight(&mut file, 64 + text_size)?;
-    put_symbol(&mut file, 0, 0, 0, 0)?;
-    put_symbol(&mut file, 1, GLOBAL_FUNCTION, 1, text_size)?;
+    pad_to_eight(&mut file, FILE_HEADER_BYTES as u64 + text_size)?;
+    put_symbol(&mut file, &NULL_SYMBOL)?;
+    put_function_symbol(&mut file, text_size)?;
     put_string(&mut file, name)?;
     file.extend_from_slice(SECTION_NAMES)?;
     pad_to_eight(&mut file, names_end)?;
@@ -103,7 +139,7 @@ pub(crate) fn symbols_at(text_size: u64) -> u64
     requires { text_size ≤ PAGE_BYTES }
     ensures { result ≡ symbols_at text_size }
 {
-    next_eight(64 + text_size)
+    next_eight(FILE_HEADER_BYTES as u64 + text_size)
 }
 
 /// The place of the sections' names, for so many bytes of text and of the symbol's name.
@@ -142,6 +178,14 @@ fn pad_to_eight(file: &mut Vec<u8>, at: u64) -> Result<(), OutOfMemory>
     Ok(())
 }
 
+/// Appends a number of one byte.
+fn put_u8(file: &mut Vec<u8>, number: u8) -> Result<(), OutOfMemory>
+    ensures { OnOk result (file.new.items ≡ file.old.items ++ little_bytes 1 number) }
+{
+    file.push(number)?;
+    Ok(())
+}
+
 /// Appends a number of two bytes.
 fn put_u16(file: &mut Vec<u8>, number: u16) -> Result<(), OutOfMemory>
     ensures { OnOk result (file.new.items ≡ file.old.items ++ little_bytes 2 number) }
@@ -166,31 +210,71 @@ fn put_u64(file: &mut Vec<u8>, number: u64) -> Result<(), OutOfMemory>
     Ok(())
 }
 
-/// Appends the header of the file, whose section table lies at this place.
-fn put_file_header(file: &mut Vec<u8>, table_at: u64) -> Result<(), OutOfMemory>
-    ensures { OnOk result (file.new.items ≡ file.old.items ++ file_header table_at) }
+/// Appends the header of a file of the form, whose section table lies at this place.
+fn put_module_header(file: &mut Vec<u8>, table_at: u64) -> Result<(), OutOfMemory>
+    ensures { OnOk result (file.new.items ≡ file.old.items ++ file_header (header_of_module table_at)) }
 {
-    file.extend_from_slice(&HEADER_START)?;
-    put_u64(file, table_at)?;
-    file.extend_from_slice(&HEADER_END)?;
+    let header = FileHeader {
+        section_headers_at: table_at,
+        ..MODULE_HEADER
+    };
+    put_file_header(file, &header)
+}
+
+/// Appends the header of a file.
+fn put_file_header(file: &mut Vec<u8>, header: &FileHeader) -> Result<(), OutOfMemory>
+    ensures { OnOk result (file.new.items ≡ file.old.items ++ file_header header.now) }
+{
+    put_identification(file)?;
+    put_u16(file, header.kind)?;
+    put_u16(file, header.machine)?;
+    put_u32(file, header.version)?;
+    put_u64(file, header.entry)?;
+    put_u64(file, header.program_headers_at)?;
+    put_u64(file, header.section_headers_at)?;
+    put_u32(file, header.flags)?;
+    put_u16(file, header.header_bytes)?;
+    put_u16(file, header.program_header_bytes)?;
+    put_u16(file, header.program_headers)?;
+    put_u16(file, header.section_header_bytes)?;
+    put_u16(file, header.section_headers)?;
+    put_u16(file, header.names_section)?;
     Ok(())
 }
 
-/// Appends a symbol whose value is 0.
-fn put_symbol(
-    file: &mut Vec<u8>,
-    name: u32,
-    info: u8,
-    section: u16,
-    size: u64,
-) -> Result<(), OutOfMemory>
-    ensures { OnOk result (file.new.items ≡ file.old.items ++ symbol name info section 0 size) }
+/// Appends the first bytes of a file.
+fn put_identification(file: &mut Vec<u8>) -> Result<(), OutOfMemory>
+    ensures { OnOk result (file.new.items ≡ file.old.items ++ identification) }
 {
-    put_u32(file, name)?;
-    file.extend_from_slice(&[info, 0])?;
-    put_u16(file, section)?;
-    put_u64(file, 0)?;
-    put_u64(file, size)
+    file.extend_from_slice(&IDENTIFICATION)?;
+    Ok(())
+}
+
+/// Appends a symbol.
+fn put_symbol(file: &mut Vec<u8>, made: &Symbol) -> Result<(), OutOfMemory>
+    ensures { OnOk result (file.new.items ≡ file.old.items ++ symbol made.now) }
+{
+    put_u32(file, made.name)?;
+    put_u8(file, made.info)?;
+    put_u8(file, made.other)?;
+    put_u16(file, made.section)?;
+    put_u64(file, made.value)?;
+    put_u64(file, made.size)
+}
+
+/// Appends the symbol of the text, which is a function of so many bytes.
+fn put_function_symbol(file: &mut Vec<u8>, size: u64) -> Result<(), OutOfMemory>
+    ensures { OnOk result (file.new.items ≡ file.old.items ++ symbol (function_symbol size)) }
+{
+    let made = Symbol {
+        name: 1,
+        info: STB_GLOBAL * 16 + STT_FUNC,
+        other: STV_DEFAULT,
+        section: TEXT_SECTION,
+        value: 0,
+        size,
+    };
+    put_symbol(file, &made)
 }
 
 /// Appends a string between two zero bytes.
@@ -205,13 +289,12 @@ fn put_string(file: &mut Vec<u8>, string: &[u8]) -> Result<(), OutOfMemory>
 
 /// Appends the header of a section.
 fn put_section_header(file: &mut Vec<u8>, header: &SectionHeader) -> Result<(), OutOfMemory>
-    ensures { let h = header.now in
-        OnOk result (file.new.items ≡ file.old.items ++ section_header h.name h.kind h.flags h.offset h.size h.link h.info h.align h.entry_size) }
+    ensures { OnOk result (file.new.items ≡ file.old.items ++ section_header header.now) }
 {
     put_u32(file, header.name)?;
     put_u32(file, header.kind)?;
     put_u64(file, header.flags)?;
-    put_u64(file, 0)?;
+    put_u64(file, header.address)?;
     put_u64(file, header.offset)?;
     put_u64(file, header.size)?;
     put_u32(file, header.link)?;
@@ -232,30 +315,30 @@ fn put_section_table(file: &mut Vec<u8>, text_size: u64, name_size: u64) -> Resu
     put_symbols_header(file, symbols_at(text_size))?;
     put_strings_header(
         file,
-        15,
+        STRTAB_NAME,
         symbols_at(text_size) + SYMBOLS_BYTES,
         name_size + 2,
     )?;
     put_strings_header(
         file,
-        23,
+        SHSTRTAB_NAME,
         names_at(text_size, name_size),
         SECTION_NAMES_BYTES,
     )?;
     Ok(())
 }
 
-/// Appends the header of the text, which is allocated and executed.
+/// Appends the header of the text, which is loaded and executed.
 fn put_text_header(file: &mut Vec<u8>, size: u64) -> Result<(), OutOfMemory>
-    ensures { OnOk result (file.new.items ≡ file.old.items ++ section_header 1 1 6 64 size 0 0 4 0) }
+    ensures { OnOk result (file.new.items ≡ file.old.items ++ section_header (text_header size)) }
 {
     let header = SectionHeader {
-        name: 1,
-        kind: PROGBITS,
-        flags: TEXT_FLAGS,
-        offset: 64,
+        name: TEXT_NAME,
+        kind: SHT_PROGBITS,
+        flags: SHF_ALLOC + SHF_EXECINSTR,
+        offset: FILE_HEADER_BYTES as u64,
         size,
-        align: 4,
+        align: INSTRUCTION_BYTES,
         ..NULL_SECTION
     };
     put_section_header(file, &header)
@@ -263,17 +346,17 @@ fn put_text_header(file: &mut Vec<u8>, size: u64) -> Result<(), OutOfMemory>
 
 /// Appends the header of the two symbols, whose names the next section has.
 fn put_symbols_header(file: &mut Vec<u8>, offset: u64) -> Result<(), OutOfMemory>
-    ensures { OnOk result (file.new.items ≡ file.old.items ++ section_header 7 2 0 offset 48 3 1 8 24) }
+    ensures { OnOk result (file.new.items ≡ file.old.items ++ section_header (symbols_header offset)) }
 {
     let header = SectionHeader {
-        name: 7,
-        kind: SYMTAB,
+        name: SYMTAB_NAME,
+        kind: SHT_SYMTAB,
         offset,
         size: SYMBOLS_BYTES,
-        link: 3,
-        info: 1,
+        link: STRINGS_SECTION,
+        info: FIRST_GLOBAL,
         align: 8,
-        entry_size: 24,
+        entry_size: SYMBOL_BYTES,
         ..NULL_SECTION
     };
     put_section_header(file, &header)
@@ -286,11 +369,11 @@ fn put_strings_header(
     offset: u64,
     size: u64,
 ) -> Result<(), OutOfMemory>
-    ensures { OnOk result (file.new.items ≡ file.old.items ++ section_header name 3 0 offset size 0 0 1 0) }
+    ensures { OnOk result (file.new.items ≡ file.old.items ++ section_header (strings_header name offset size)) }
 {
     let header = SectionHeader {
         name,
-        kind: STRTAB,
+        kind: SHT_STRTAB,
         offset,
         size,
         align: 1,

@@ -56,6 +56,13 @@ impl Placer {
         })
     }
 
+    /// The places that were drawn, in order.
+    pub fn places(&self) -> &[Place]
+        ensures { result.now ≡ self.now.places }
+    {
+        self.places.as_slice()
+    }
+
     /// How many places may still be drawn. Takes no memory.
     pub fn left(&self) -> u64
         ensures value { result + length self.now.places ≡ MAPPINGS }

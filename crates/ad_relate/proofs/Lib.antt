@@ -1,7 +1,8 @@
 pub mod Values
 pub mod Parts
-pub mod Lies
+pub mod Apart
 pub mod Fetch
 pub mod Steps
 pub mod Runs
 pub mod Clear
+pub mod ClearHistory

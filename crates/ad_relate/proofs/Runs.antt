@@ -10,15 +10,15 @@ use Rattle.ad_base.specs.declared.image.Image.{Image}
 use Rattle.ad_base.specs.declared.layout.TheConstants.{FETCH_BYTES, GATE, PAGE_BYTES, STACK_PAGES}
 use Rattle.ad_base.specs.Place.{base_of}
 use Rattle.ad_core.specs.Plain as plain
-use Rattle.ad_core.specs.Segments.{Touch, touches_of_fetch}
+use Rattle.ad_core.specs.Segments.{Access, accesses_of_fetch}
 use Rattle.ad_isa.specs.Step.{State, Next, Goes, Ends}
-use Rattle.ad_symbolic.specs.Access.{Reach, fetched_value, part_bytes}
+use Rattle.ad_symbolic.specs.AddressSpace.{AddressSpace, fetched_value, part_bytes}
 use Rattle.ad_symbolic.specs.Machine as symbolic
 use Rattle.ad_symbolic.specs.Machine.{Memory, Run, Stops, Returns, found, symbolic_step, unless_at_gate, spent}
 use Rattle.ad_symbolic.specs.Value.{Address, At, Movable, Num, Part, Reason, Stack, Value}
 use Rattle.ad_relate.specs.Machines.{IsReady, StandsFor, memory_at, next_at, state_at}
 use Rattle.ad_relate.specs.Stands.{Fits, IsApart, Places, base_at, number_at}
-use Rattle.ad_relate.proofs.Values.{alignment}
+use Rattle.ad_relate.proofs.Values.{alignment, numbers-at}
 use Rattle.ad_relate.proofs.Steps.{step-leaves, step-stands}
 
 -- a part and the page before it lie behind the gate's region, and far below 2^64
@@ -35,14 +35,14 @@ gate-far : (base size o : ℕ) → GATE + PAGE_BYTES < base → base + size + PA
 gate-far base size o from to below gate = (omega arith, omega arith)
 
 -- a fetch there isn't clear
-gate-unclear : (r : Reach) (ps : Places) (p : Part) (o : ℕ) → IsApart r.image ps → o < 2 ^ 64 → o % FETCH_BYTES ≡ 0
-    → number_at ps (At p o) ≡ GATE → fetched_value r (At p o) ≡ Err Address
+gate-unclear : (space : AddressSpace) (ps : Places) (p : Part) (o : ℕ) → IsApart space.image ps → o < 2 ^ 64 → o % FETCH_BYTES ≡ 0
+    → number_at ps (At p o) ≡ GATE → fetched_value space (At p o) ≡ Err Address
 unfolding fetched_value
-gate-unclear r ps p o apart below aligned gate =
-    let far = gate-far (base_at ps p) (part_bytes r.image p) o (base-from r.image ps p apart) (base-to r.image ps p apart) below gate in
+gate-unclear space ps p o apart below aligned gate =
+    let far = gate-far (base_at ps p) (part_bytes space.image p) o (base-from space.image ps p apart) (base-to space.image ps p apart) below gate in
     let a = eq-eqb (o % FETCH_BYTES) 0 aligned in
-    let inside = le-ltb o (part_bytes r.image p) (omega arith) in
-    let beside = or_from (leb (2 ^ 64 - PAGE_BYTES) o) (ltb o (part_bytes r.image p + PAGE_BYTES)) (lt-leb (2 ^ 64 - PAGE_BYTES) o far.1) (le-ltb o (part_bytes r.image p + PAGE_BYTES) far.0) in
+    let inside = le-ltb o (part_bytes space.image p) (omega arith) in
+    let beside = or_from (leb (2 ^ 64 - PAGE_BYTES) o) (ltb o (part_bytes space.image p + PAGE_BYTES)) (lt-leb (2 ^ 64 - PAGE_BYTES) o far.1) (le-ltb o (part_bytes space.image p + PAGE_BYTES) far.0) in
     rw (a, inside, beside) refl
 
 -- where a run has an outcome, the plain machine's one is what it stands for
@@ -60,13 +60,13 @@ unclear-stands ps (Ok o) other none = absurd none
 unclear-stands ps (Err u) other none = tt
 
 -- a run that ends with this memory
-ended : (ps : Places) (touched : List Touch) (m : Memory) (end : End) → StandsFor ps (record { finish = Stops end; memory = m }) (record { end = end; memory = memory_at ps touched m })
-ended ps touched m end = record { end = refl; segments = refl; notes = refl; queue = refl }
+ended : (ps : Places) (accesses : List Access) (m : Memory) (end : End) → StandsFor ps (record { finish = Stops end; memory = m }) (record { end = end; memory = memory_at ps accesses m })
+ended ps accesses m end = record { end = refl; segments = refl; notes = refl; queue = refl }
 
 -- a run that has reached the gate
-returned : (ps : Places) (touched : List Touch) (m : Memory) (xs : List Value)
-    → StandsFor ps (record { finish = Returns (slice_index_or xs 10 (Num 0)); memory = m }) (record { end = ends.Returned (slice_index (map (number_at ps) xs) 10); memory = memory_at ps touched m })
-returned ps touched m xs = record { end = ap ends.Returned (get_or-map (number_at ps) xs 10 (Num 0)); segments = refl; notes = refl; queue = refl }
+returned : (ps : Places) (accesses : List Access) (m : Memory) (xs : List Value)
+    → StandsFor ps (record { finish = Returns (slice_index_or xs 10 (Num 0)); memory = m }) (record { end = ends.Returned (slice_index (map (number_at ps) xs) 10); memory = memory_at ps accesses m })
+returned ps accesses m xs = record { end = ap ends.Returned (get_or-map (number_at ps) xs 10 (Num 0)); segments = refl; notes = refl; queue = refl }
 
 -- choices by one test
 run-if : (ps : Places) (b : Bool) (x y : Run) (v w : plain.Outcome) → (b ≡ true → RunStands ps x v) → (b ≡ false → RunStands ps y w) → RunStands ps (if b then x else y) (if b then v else w)
@@ -79,47 +79,42 @@ run-else ps true x v w h k = unclear-stands ps x v (h refl)
 run-else ps false x v w h k = k
 
 -- the gate is looked for in both machines
-gated : (ps : Places) (touched : List Touch) (xs : List Value) (pc : Value) (m : Memory) (otherwise : Run) (other : plain.Outcome)
+gated : (ps : Places) (accesses : List Access) (xs : List Value) (pc : Value) (m : Memory) (otherwise : Run) (other : plain.Outcome)
     → IsReady ps (record { registers = xs; pc = pc }) m
-    → ((p : Part) (o : ℕ) → pc ≡ At p o → fetched_value m.reach (At p o) ≡ Err Address → IsUnclear otherwise)
+    → ((p : Part) (o : ℕ) → pc ≡ At p o → fetched_value m.space (At p o) ≡ Err Address → IsUnclear otherwise)
     → RunStands ps otherwise other
-    → RunStands ps (unless_at_gate (record { registers = xs; pc = pc }) m otherwise) (plain.unless_at_gate (state_at ps (record { registers = xs; pc = pc })) (memory_at ps touched m) other)
-gated ps touched xs (Num n) m otherwise other ready far h = run-if ps (n == GATE) _ otherwise _ other (λ e. returned ps touched m xs) (λ e. h)
-gated ps touched xs (At p o) m otherwise other ready far h =
-    run-else ps (number_at ps (At p o) == GATE) otherwise _ other (λ e. far p o refl (gate-unclear m.reach ps p o ready.apart ready.below ready.aligned (eqb-true (number_at ps (At p o)) GATE e))) h
+    → RunStands ps (unless_at_gate (record { registers = xs; pc = pc }) m otherwise) (plain.unless_at_gate (state_at ps (record { registers = xs; pc = pc })) (memory_at ps accesses m) other)
+gated ps accesses xs (Num n) m otherwise other ready far h = run-if ps (n == GATE) _ otherwise _ other (λ e. returned ps accesses m xs) (λ e. h)
+gated ps accesses xs (At p o) m otherwise other ready far h =
+    run-else ps (number_at ps (At p o) == GATE) otherwise _ other (λ e. far p o refl (gate-unclear m.space ps p o ready.apart ready.below ready.aligned (eqb-true (number_at ps (At p o)) GATE e))) h
 
 -- where the fuel is spent
-spent-stands : (ps : Places) (touched : List Touch) (made : ℕ) (xs : List Value) (pc : Value) (m : Memory)
-    → RunStands ps (spent made (record { registers = xs; pc = pc }) m) (record { end = ends.Fuel; memory = memory_at ps touched m })
-spent-stands ps touched made xs (Num n) m = ended ps touched m ends.Fuel
-spent-stands ps touched made xs (At p o) m =
-    elim (fetched_value m.reach (At p o)) as (λ found. RunStands ps (elim found [ Ok x ↦ Ok (record { finish = Stops ends.Fuel; memory = m }) | Err reason ↦ Err (record { reason = Address; step = made }) ]) (record { end = ends.Fuel; memory = memory_at ps touched m })) [
-      | Ok found ↦ ended ps touched m ends.Fuel
+spent-stands : (ps : Places) (accesses : List Access) (made : ℕ) (xs : List Value) (pc : Value) (m : Memory)
+    → RunStands ps (spent made (record { registers = xs; pc = pc }) m) (record { end = ends.Fuel; memory = memory_at ps accesses m })
+spent-stands ps accesses made xs (Num n) m = ended ps accesses m ends.Fuel
+spent-stands ps accesses made xs (At p o) m =
+    elim (fetched_value m.space (At p o)) as (λ found. RunStands ps (elim found [ Ok x ↦ Ok (record { finish = Stops ends.Fuel; memory = m }) | Err reason ↦ Err (record { reason = Address; step = made }) ]) (record { end = ends.Fuel; memory = memory_at ps accesses m })) [
+      | Ok found ↦ ended ps accesses m ends.Fuel
       | Err reason ↦ tt
     ]
 
-spent-unclear : (made : ℕ) (xs : List Value) (pc : Value) (m : Memory) (p : Part) (o : ℕ) → pc ≡ At p o → fetched_value m.reach (At p o) ≡ Err Address → IsUnclear (spent made (record { registers = xs; pc = pc }) m)
+spent-unclear : (made : ℕ) (xs : List Value) (pc : Value) (m : Memory) (p : Part) (o : ℕ) → pc ≡ At p o → fetched_value m.space (At p o) ≡ Err Address → IsUnclear (spent made (record { registers = xs; pc = pc }) m)
 spent-unclear made xs pc m p o at e = rw (at, e) tt
 
-step-unclear : (made : ℕ) (rest : State Value → Memory → Run) (xs : List Value) (pc : Value) (m : Memory) (p : Part) (o : ℕ) → pc ≡ At p o → fetched_value m.reach (At p o) ≡ Err Address
+step-unclear : (made : ℕ) (rest : State Value → Memory → Run) (xs : List Value) (pc : Value) (m : Memory) (p : Part) (o : ℕ) → pc ≡ At p o → fetched_value m.space (At p o) ≡ Err Address
     → IsUnclear (symbolic.continue made rest (symbolic_step (record { registers = xs; pc = pc }) m))
 unfolding symbolic_step
 step-unclear made rest xs pc m p o at e = rw (at, e) tt
 
 -- what follows a step
-continue-stands : (ps : Places) (touched : List Touch) (made : ℕ) (rest : State Value → Memory → Run) (goes : State ℕ → plain.Memory → plain.Outcome) (step : Result (Next Value Memory) Reason) (next : Next ℕ plain.Memory)
-    → ((n : Next Value Memory) → step ≡ Ok n → next ≡ next_at ps touched n)
-    → ((h : State Value) (m : Memory) → step ≡ Ok (Goes h m) → RunStands ps (rest h m) (goes (state_at ps h) (memory_at ps touched m)))
+continue-stands : (ps : Places) (accesses : List Access) (made : ℕ) (rest : State Value → Memory → Run) (goes : State ℕ → plain.Memory → plain.Outcome) (step : Result (Next Value Memory) Reason) (next : Next ℕ plain.Memory)
+    → ((n : Next Value Memory) → step ≡ Ok n → next ≡ next_at ps accesses n)
+    → ((h : State Value) (m : Memory) → step ≡ Ok (Goes h m) → RunStands ps (rest h m) (goes (state_at ps h) (memory_at ps accesses m)))
     → RunStands ps (symbolic.continue made rest step) (plain.continue goes next)
-continue-stands ps touched made rest goes (Ok (Goes h m)) next stands more = subst (λ n. RunStands ps (rest h m) (plain.continue goes n)) (sym (stands (Goes h m) refl)) (more h m refl)
-continue-stands ps touched made rest goes (Ok (Ends end m)) next stands more =
-    subst (λ n. StandsFor ps (record { finish = Stops end; memory = m }) (plain.continue goes n)) (sym (stands (Ends end m) refl)) (ended ps touched m end)
-continue-stands ps touched made rest goes (Err reason) next stands more = tt
-
--- numbers stand for themselves
-numbers-at : (ps : Places) (args : List ℕ) → map (number_at ps) (map Num args) ≡ args
-numbers-at ps [] = refl
-numbers-at ps (a ∷ more) = ap (λ xs. a ∷ xs) (numbers-at ps more)
+continue-stands ps accesses made rest goes (Ok (Goes h m)) next stands more = subst (λ n. RunStands ps (rest h m) (plain.continue goes n)) (sym (stands (Goes h m) refl)) (more h m refl)
+continue-stands ps accesses made rest goes (Ok (Ends end m)) next stands more =
+    subst (λ n. StandsFor ps (record { finish = Stops end; memory = m }) (plain.continue goes n)) (sym (stands (Ends end m) refl)) (ended ps accesses m end)
+continue-stands ps accesses made rest goes (Err reason) next stands more = tt
 
 -- the registers at the start
 first-at : (ps : Places) (args : List ℕ) (sp : ℕ) → number_at ps (At Stack (STACK_PAGES * PAGE_BYTES)) ≡ sp → map (number_at ps) (symbolic.first_values args) ≡ plain.first_registers args sp
@@ -139,19 +134,19 @@ stack-end : (i : Image) (ps : Places) → IsApart i ps → number_at ps (At Stac
 stack-end i ps apart = let to = base-to i ps Stack apart in omega arith
 
 module _ (ps : Places) where
-  run-stands : (fuel made : ℕ) (touched : List Touch) (h : State Value) (m : Memory) → IsReady ps h m
-      → RunStands ps (symbolic.run fuel made h m) (plain.run fuel (state_at ps h) (memory_at ps touched m))
+  run-stands : (fuel made : ℕ) (accesses : List Access) (h : State Value) (m : Memory) → IsReady ps h m
+      → RunStands ps (symbolic.run fuel made h m) (plain.run fuel (state_at ps h) (memory_at ps accesses m))
   unfolding symbolic.run plain.run
-  run-stands zero made touched h m ready =
-      gated ps touched h.registers h.pc m (spent made h m) _ ready (spent-unclear made h.registers h.pc m) (spent-stands ps touched made h.registers h.pc m)
-  run-stands (suc fuel) made touched h m ready =
-      let after = touched ++ touches_of_fetch (number_at ps h.pc) in
-      gated ps touched h.registers h.pc m (symbolic.continue made (symbolic.run fuel (made + 1)) (symbolic_step h m)) _ ready (step-unclear made (symbolic.run fuel (made + 1)) h.registers h.pc m)
-      (continue-stands ps after made (symbolic.run fuel (made + 1)) (plain.run fuel) (symbolic_step h m) (plain.plain_step (state_at ps h) (memory_at ps touched m))
-      (λ n e. step-stands ps h m touched n ready e)
+  run-stands zero made accesses h m ready =
+      gated ps accesses h.registers h.pc m (spent made h m) _ ready (spent-unclear made h.registers h.pc m) (spent-stands ps accesses made h.registers h.pc m)
+  run-stands (suc fuel) made accesses h m ready =
+      let after = accesses ++ accesses_of_fetch (number_at ps h.pc) in
+      gated ps accesses h.registers h.pc m (symbolic.continue made (symbolic.run fuel (made + 1)) (symbolic_step h m)) _ ready (step-unclear made (symbolic.run fuel (made + 1)) h.registers h.pc m)
+      (continue-stands ps after made (symbolic.run fuel (made + 1)) (plain.run fuel) (symbolic_step h m) (plain.plain_step (state_at ps h) (memory_at ps accesses m))
+      (λ n e. step-stands ps h m accesses n ready e)
       (λ next memory e. run-stands fuel (made + 1) after next memory (step-leaves ps h next m memory ready e)))
 
-  call-stands : (fuel offset : ℕ) (args : List ℕ) (m : Memory) → IsApart m.reach.image ps → Fits m.reach → offset < 2 ^ 64
+  call-stands : (fuel offset : ℕ) (args : List ℕ) (m : Memory) → IsApart m.space.image ps → Fits m.space → offset < 2 ^ 64
       → RunStands ps (symbolic.symbolic_call fuel offset args m)
       (plain.plain_call fuel (number_at ps (At Movable offset)) args (base_of ps.stack + STACK_PAGES * PAGE_BYTES) (memory_at ps [] m))
   unfolding symbolic.symbolic_call plain.plain_call
@@ -160,7 +155,7 @@ module _ (ps : Places) where
       let entry = number_at ps (At Movable offset) in
       let start : State Value = record { registers = symbolic.first_values args; pc = At Movable offset } in
       let made = λ (h : State ℕ). plain.run fuel h (memory_at ps [] m) in
-      let same = first-at ps args sp (stack-end m.reach.image ps apart) in
+      let same = first-at ps args sp (stack-end m.space.image ps apart) in
       let misaligned : plain.Outcome = record { end = ends.Misaligned; memory = memory_at ps [] m } in
       let runs = λ (e : (offset % FETCH_BYTES == 0) ≡ true).
       let ready : IsReady ps start m = record { apart = apart; fits = fits; aligned = eqb-true (offset % FETCH_BYTES) 0 e; below = below } in
@@ -170,12 +165,12 @@ module _ (ps : Places) where
       (run-if ps (offset % FETCH_BYTES == 0) _ _ _ _ runs (λ e. ended ps [] m ends.Misaligned))
 
   -- a run's outcome
-  pub run-outcome : (fuel made : ℕ) (touched : List Touch) (h : State Value) (m : Memory) (o : symbolic.Outcome) → IsReady ps h m → symbolic.run fuel made h m ≡ Ok o
-      → StandsFor ps o (plain.run fuel (state_at ps h) (memory_at ps touched m))
-  run-outcome fuel made touched h m o ready e = subst (λ r. RunStands ps r (plain.run fuel (state_at ps h) (memory_at ps touched m))) e (run-stands fuel made touched h m ready)
+  pub run-outcome : (fuel made : ℕ) (accesses : List Access) (h : State Value) (m : Memory) (o : symbolic.Outcome) → IsReady ps h m → symbolic.run fuel made h m ≡ Ok o
+      → StandsFor ps o (plain.run fuel (state_at ps h) (memory_at ps accesses m))
+  run-outcome fuel made accesses h m o ready e = subst (λ r. RunStands ps r (plain.run fuel (state_at ps h) (memory_at ps accesses m))) e (run-stands fuel made accesses h m ready)
 
   -- a call's outcome
-  pub call-outcome : (fuel offset : ℕ) (args : List ℕ) (m : Memory) (o : symbolic.Outcome) → IsApart m.reach.image ps → Fits m.reach → offset < 2 ^ 64
+  pub call-outcome : (fuel offset : ℕ) (args : List ℕ) (m : Memory) (o : symbolic.Outcome) → IsApart m.space.image ps → Fits m.space → offset < 2 ^ 64
       → symbolic.symbolic_call fuel offset args m ≡ Ok o
       → StandsFor ps o (plain.plain_call fuel (number_at ps (At Movable offset)) args (base_of ps.stack + STACK_PAGES * PAGE_BYTES) (memory_at ps [] m))
   call-outcome fuel offset args m o apart fits below e =

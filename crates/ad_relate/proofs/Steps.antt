@@ -6,7 +6,7 @@ use Rattle.ad_base.specs.declared.end.End.{End}
 use Rattle.ad_base.specs.declared.end.End.TheVariants.{Misaligned}
 use Rattle.ad_base.specs.declared.layout.TheConstants.{FETCH_BYTES, INSTRUCTION_BYTES}
 use Rattle.ad_core.specs.Plain.{numbers, segments_storage, plain_step, word_or_end, certain}
-use Rattle.ad_core.specs.Segments.{Touch, fetched, touches_of_fetch}
+use Rattle.ad_core.specs.Segments.{Access, fetched, accesses_of_fetch}
 use Rattle.ad_isa.specs.declared.instr.Alu.TheVariants.{Add}
 use Rattle.ad_isa.specs.declared.instr.Instr.{Instr}
 use Rattle.ad_isa.specs.declared.instr.Instr.TheVariants.{Auipc, OpImm, Op, Jalr}
@@ -14,7 +14,7 @@ use Rattle.ad_isa.specs.Domain.{◌>>=◌}
 use Rattle.ad_isa.specs.Rows.{Effect, Writes, Jumps, effect, register, with_register}
 use Rattle.ad_isa.specs.Step.{State, Next, Goes, Ends, execute, perform, settle, step}
 use Rattle.ad_isa.specs.Table.{decoded}
-use Rattle.ad_symbolic.specs.Access.{fetched_value}
+use Rattle.ad_symbolic.specs.AddressSpace.{fetched_value}
 use Rattle.ad_symbolic.specs.Machine
 use Rattle.ad_symbolic.specs.Machine.{Memory, found, known, symbolic_step, symbolic_storage}
 use Rattle.ad_symbolic.specs.Value.{At, Num, Reason, Value, even_of, offset_of, sum_of, values}
@@ -58,31 +58,31 @@ module _ (ps : Places) where
       follows-bind (number_at ps) effect_at (even_of sum) _ _ (λ t. Ok (Jumps rd next t)) (even-follows ps sum _ refl) (λ target.
       follows-sum effect_at pc (Num INSTRUCTION_BYTES) _ _ _ (λ link. Ok (Jumps rd link (number_at ps target))) refl refl (λ link. refl)))
 
-  module _ (touched : List Touch) (h : State Value) (m : Memory) where
-    settle-follows : (e : Effect Value) → Follows (next_at ps touched) (settle values symbolic_storage h m e) (settle numbers segments_storage (state_at ps h) (memory_at ps touched m) (effect_at e))
+  module _ (accesses : List Access) (h : State Value) (m : Memory) where
+    settle-follows : (e : Effect Value) → Follows (next_at ps accesses) (settle values symbolic_storage h m e) (settle numbers segments_storage (state_at ps h) (memory_at ps accesses m) (effect_at e))
     settle-follows (Writes rd v) =
-        let mapped = memory_at ps touched m in
+        let mapped = memory_at ps accesses m in
         let xs = with_register numbers (map (number_at ps) h.registers) rd (number_at ps v) in
-        follows-sum (next_at ps touched) h.pc (Num INSTRUCTION_BYTES) _ _ _ (λ next. Ok (Goes (record { registers = xs; pc = next }) mapped)) refl refl
+        follows-sum (next_at ps accesses) h.pc (Num INSTRUCTION_BYTES) _ _ _ (λ next. Ok (Goes (record { registers = xs; pc = next }) mapped)) refl refl
         (λ next j. Ok (Goes (record { registers = with_register-at ps h.registers rd v j; pc = number_at ps next }) mapped))
     settle-follows (Jumps rd link target) =
-        follows-if (next_at ps touched) (offset_of target % FETCH_BYTES == 0) (number_at ps target % FETCH_BYTES == 0) _ _ _ _ (ap (λ n. n == 0) (alignment ps target))
-        (λ j. Ok (Goes (record { registers = with_register-at ps h.registers rd link j; pc = number_at ps target }) (memory_at ps touched m))) refl
+        follows-if (next_at ps accesses) (offset_of target % FETCH_BYTES == 0) (number_at ps target % FETCH_BYTES == 0) _ _ _ _ (ap (λ n. n == 0) (alignment ps target))
+        (λ j. Ok (Goes (record { registers = with_register-at ps h.registers rd link j; pc = number_at ps target }) (memory_at ps accesses m))) refl
 
-    known-follows : (i : Option Instr) → Follows (next_at ps touched) (known h m i) (execute numbers segments_storage (state_at ps h) (memory_at ps touched m) i)
+    known-follows : (i : Option Instr) → Follows (next_at ps accesses) (known h m i) (execute numbers segments_storage (state_at ps h) (memory_at ps accesses m) i)
     known-follows None = tt
     known-follows (Some i) =
-        follows-bind effect_at (next_at ps touched) (effect values h.registers h.pc i) _ _ (settle numbers segments_storage (state_at ps h) (memory_at ps touched m)) (effect-follows h.registers h.pc i) settle-follows
+        follows-bind effect_at (next_at ps accesses) (effect values h.registers h.pc i) _ _ (settle numbers segments_storage (state_at ps h) (memory_at ps accesses m)) (effect-follows h.registers h.pc i) settle-follows
 
-    found-follows : (word : Result ℕ End) → Follows (next_at ps touched) (found h m word) (perform numbers segments_storage (state_at ps h) (memory_at ps touched m) word)
+    found-follows : (word : Result ℕ End) → Follows (next_at ps accesses) (found h m word) (perform numbers segments_storage (state_at ps h) (memory_at ps accesses m) word)
     found-follows (Ok word) = known-follows (decoded word)
     found-follows (Err end) = refl
 
     -- a step, where what is fetched is the same
     fetched-follows : (clear : Result (Result ℕ End) Reason) (word : Result ℕ End) → ((found : Result ℕ End) → clear ≡ Ok found → word ≡ found)
-        → Follows (next_at ps touched) (clear >>= found h m) (perform numbers segments_storage (state_at ps h) (memory_at ps touched m) word)
+        → Follows (next_at ps accesses) (clear >>= found h m) (perform numbers segments_storage (state_at ps h) (memory_at ps accesses m) word)
     fetched-follows (Ok found) word same =
-        subst (λ w. Follows (next_at ps touched) (Machine.found h m found) (perform numbers segments_storage (state_at ps h) (memory_at ps touched m) w)) (sym (same found refl)) (found-follows found)
+        subst (λ w. Follows (next_at ps accesses) (Machine.found h m found) (perform numbers segments_storage (state_at ps h) (memory_at ps accesses m) w)) (sym (same found refl)) (found-follows found)
     fetched-follows (Err reason) word same = tt
 
 -- an effect leads to an offset of 64 bits
@@ -154,22 +154,22 @@ module _ (ps : Places) (h : State Value) (m : Memory) (ready : IsReady ps h m) w
 
   pub step-ready : IfOk (symbolic_step h m) GoesReady
   unfolding symbolic_step
-  step-ready = if-bind GoesReady (fetched_value m.reach h.pc) _ (λ word e. found-ready word)
+  step-ready = if-bind GoesReady (fetched_value m.space h.pc) _ (λ word e. found-ready word)
 
   -- a step stands for the plain machine's step
-  pub step-follows : (touched : List Touch)
-      → Follows (next_at ps (touched ++ touches_of_fetch (number_at ps h.pc))) (symbolic_step h m) (step numbers segments_storage (state_at ps h) (memory_at ps touched m))
+  pub step-follows : (accesses : List Access)
+      → Follows (next_at ps (accesses ++ accesses_of_fetch (number_at ps h.pc))) (symbolic_step h m) (step numbers segments_storage (state_at ps h) (memory_at ps accesses m))
   unfolding symbolic_step step
-  step-follows touched =
-      fetched-follows ps (touched ++ touches_of_fetch (number_at ps h.pc)) h m (fetched_value m.reach h.pc) (word_or_end (fetched (segments_at ps m.reach) (number_at ps h.pc)))
-      (λ word. fetch-stands m.reach ps ready.apart ready.fits h.pc word ready.below ready.aligned)
+  step-follows accesses =
+      fetched-follows ps (accesses ++ accesses_of_fetch (number_at ps h.pc)) h m (fetched_value m.space h.pc) (word_or_end (fetched (segments_at ps m.space) (number_at ps h.pc)))
+      (λ word. fetch-stands m.space ps ready.apart ready.fits h.pc word ready.below ready.aligned)
 
 -- and so what it comes to is what the plain machine's step comes to
-pub step-stands : (ps : Places) (h : State Value) (m : Memory) (touched : List Touch) (next : Next Value Memory) → IsReady ps h m → symbolic_step h m ≡ Ok next
-    → plain_step (state_at ps h) (memory_at ps touched m) ≡ next_at ps (touched ++ touches_of_fetch (number_at ps h.pc)) next
+pub step-stands : (ps : Places) (h : State Value) (m : Memory) (accesses : List Access) (next : Next Value Memory) → IsReady ps h m → symbolic_step h m ≡ Ok next
+    → plain_step (state_at ps h) (memory_at ps accesses m) ≡ next_at ps (accesses ++ accesses_of_fetch (number_at ps h.pc)) next
 unfolding plain_step
-step-stands ps h m touched next ready e =
-    ap certain (followed (next_at ps (touched ++ touches_of_fetch (number_at ps h.pc))) (symbolic_step h m) next (step-follows ps h m ready touched) e)
+step-stands ps h m accesses next ready e =
+    ap certain (followed (next_at ps (accesses ++ accesses_of_fetch (number_at ps h.pc))) (symbolic_step h m) next (step-follows ps h m ready accesses) e)
 
 -- and is ready for the step after it
 pub step-leaves : (ps : Places) (h after : State Value) (m memory : Memory) → IsReady ps h m → symbolic_step h m ≡ Ok (Goes after memory) → IsReady ps after memory

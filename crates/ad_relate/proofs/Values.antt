@@ -1,11 +1,11 @@
 -- The operations on values are those on the numbers that the values stand for.
-use Rattle.std.proofs.Common.{◌≡◌, ℕ, ◌+◌, ◌-◌, ◌%◌, ◌^◌, List, map, Bool, true, false, Ok, Err, Result, refl, sym, ap, subst, ◌∙◌, add_assoc, add_comm, arith, get_or, set}
+use Rattle.std.proofs.Common.{◌≡◌, ℕ, ◌+◌, ◌-◌, ◌%◌, ◌^◌, List, [], ◌∷◌, map, Bool, true, false, Ok, Err, Result, refl, sym, ap, subst, ◌∙◌, add_assoc, add_comm, arith, get_or, set}
 use Rattle.std.specs.Prelude.{◌==◌, if◌then◌else◌}
 use Rattle.std.proofs.Math.ListN.{get_or-map}
 use Rattle.std.proofs.Math.Nat.{add-mod-mod}
 use Rattle.std.proofs.lemmas.List.{map-set}
 use native.Mathlib.Nat.{mod-add-mod}
-use Rattle.ad_base.specs.declared.layout.TheConstants.{FETCH_BYTES}
+use Rattle.ad_base.specs.declared.layout.TheConstants.{FETCH_BYTES, PAGE_BYTES}
 use Rattle.ad_isa.specs.Rows.{register, with_register}
 use Rattle.ad_core.specs.Plain.{numbers}
 use Rattle.ad_symbolic.specs.Value.{At, Movable, Num, Part, Stack, Value, even_of, offset_of, sum_of, values}
@@ -20,8 +20,13 @@ Follows f (Err reason) found = Unit {0}
 pub followed : {A B R S : Type 0} (f : A → B) {found : Result B S} (answer : Result A R) (x : A) → Follows f answer found → answer ≡ Ok x → found ≡ Ok (f x)
 followed f {found} answer x h e = subst (λ a. Follows f a found) e h
 
+-- values that are numbers stand for these
+pub numbers-at : (ps : Places) (ns : List ℕ) → map (number_at ps) (map Num ns) ≡ ns
+numbers-at ps [] = refl
+numbers-at ps (n ∷ ns) = λ j. n ∷ numbers-at ps ns j
+
 -- parts begin at pages
-pub base-page : (ps : Places) (p : Part) → base_at ps p % 4096 ≡ 0
+pub base-page : (ps : Places) (p : Part) → base_at ps p % PAGE_BYTES ≡ 0
 base-page ps Movable = omega arith
 base-page ps Stack = omega arith
 
@@ -30,11 +35,11 @@ sum-from : (base o n m : ℕ) → ((base + o) % m + n) % m ≡ (base + (o + n) %
 sum-from base o n m = mod-add-mod (base + o) m n ∙ ap (λ x. x % m) (add_assoc base o n) ∙ sym (add-mod-mod base (o + n) m)
 
 -- from an even base, bit 0 of an address is that of the offset
-even-from : (base o : ℕ) → base % 4096 ≡ 0 → (base + o) % 2 ^ 64 - (base + o) % 2 ^ 64 % 2 ≡ (base + (o - o % 2)) % 2 ^ 64
+even-from : (base o : ℕ) → base % PAGE_BYTES ≡ 0 → (base + o) % 2 ^ 64 - (base + o) % 2 ^ 64 % 2 ≡ (base + (o - o % 2)) % 2 ^ 64
 even-from base o page = omega arith
 
 -- from a page on, an address is aligned where the offset is
-aligned-from : (base o : ℕ) → base % 4096 ≡ 0 → (base + o) % 2 ^ 64 % 4 ≡ o % 4
+aligned-from : (base o : ℕ) → base % PAGE_BYTES ≡ 0 → (base + o) % 2 ^ 64 % FETCH_BYTES ≡ o % FETCH_BYTES
 aligned-from base o page = omega arith
 
 -- a sum stands for the sum

@@ -1,2 +1,4 @@
 pub mod Stands
 pub mod Machines
+pub mod ClearHistory
+pub mod Examples

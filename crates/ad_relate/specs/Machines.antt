@@ -1,18 +1,15 @@
 -- What the symbolic machine's states, steps and outcomes stand for.
-use Rattle.std.specs.Prelude.{◌≡◌, ℕ, ◌+◌, ◌*◌, ◌%◌, ◌^◌, ◌<◌, List, [], map}
+use Rattle.std.specs.Prelude.{◌≡◌, ℕ, ◌%◌, ◌^◌, ◌<◌, List, map}
 use Rattle.ad_base.specs.declared.end.End.{End}
 use Rattle.ad_base.specs.declared.end.End.TheVariants as ends
-use Rattle.ad_base.specs.declared.image.Image.{Image}
-use Rattle.ad_base.specs.declared.layout.TheConstants.{FETCH_BYTES, PAGE_BYTES, STACK_PAGES}
-use Rattle.ad_base.specs.Place.{base_of}
-use Rattle.ad_core.specs.Image.{fresh_stack, segments_of}
+use Rattle.ad_base.specs.declared.layout.TheConstants.{FETCH_BYTES}
 use Rattle.ad_core.specs.Plain as plain
-use Rattle.ad_core.specs.Segments.{Touch}
+use Rattle.ad_core.specs.Segments.{Access}
 use Rattle.ad_core.specs.Turn.{fixed_data_of, writable_of}
 use Rattle.ad_isa.specs.Step.{State, Next, Goes, Ends}
-use Rattle.ad_symbolic.specs.Access.{numbers_of}
-use Rattle.ad_symbolic.specs.Machine.{Finish, Memory, Outcome, Returns, Run, Stops}
-use Rattle.ad_symbolic.specs.Replay.{end_of, number_or_zero, run_of}
+use Rattle.ad_symbolic.specs.AddressSpace.{numbers_of}
+use Rattle.ad_symbolic.specs.Machine.{Finish, Memory, Outcome, Returns, Stops}
+use Rattle.ad_symbolic.specs.Replay.{end_of, number_or_zero}
 use Rattle.ad_symbolic.specs.Value.{Num, Value, offset_of}
 use Rattle.ad_relate.specs.Stands.{Fits, IsApart, Places, number_at, segments_at}
 
@@ -21,18 +18,18 @@ abbrev pub state_at : Places → State Value → State ℕ
 state_at ps h = record { registers = map (number_at ps) h.registers; pc = number_at ps h.pc }
 
 -- the memory that a memory stands for, once these accesses were made
-abbrev pub memory_at : Places → List Touch → Memory → plain.Memory
-memory_at ps touched m = record {
-  segments = segments_at ps m.reach;
+abbrev pub memory_at : Places → List Access → Memory → plain.Memory
+memory_at ps accesses m = record {
+  segments = segments_at ps m.space;
   notes = map (number_at ps) m.notes;
   queue = map (number_at ps) m.queue;
-  touched = touched;
+  accesses = accesses;
 }
 
 -- what a step stands for, once these accesses were made
-abbrev pub next_at : Places → List Touch → Next Value Memory → Next ℕ plain.Memory
-next_at ps touched (Goes h m) = Goes (state_at ps h) (memory_at ps touched m)
-next_at ps touched (Ends end m) = Ends end (memory_at ps touched m)
+abbrev pub next_at : Places → List Access → Next Value Memory → Next ℕ plain.Memory
+next_at ps accesses (Goes h m) = Goes (state_at ps h) (memory_at ps accesses m)
+next_at ps accesses (Ends end m) = Ends end (memory_at ps accesses m)
 
 -- the end that a run's end stands for
 abbrev pub end_at : Places → Finish → End
@@ -43,15 +40,15 @@ end_at ps (Stops end) = end
 -- no accesses.
 pub record StandsFor (ps : Places) (o : Outcome) (found : plain.Outcome) : Type 0 where
   pub end : found.end ≡ end_at ps o.finish
-  pub segments : found.memory.segments ≡ segments_at ps o.memory.reach
+  pub segments : found.memory.segments ≡ segments_at ps o.memory.space
   pub notes : found.memory.notes ≡ map (number_at ps) o.memory.notes
   pub queue : found.memory.queue ≡ map (number_at ps) o.memory.queue
 
 -- what holds before each step of a call: places are apart, data and stack fill their pages, and the offset
 -- of the next instruction is one of 64 bits that may be fetched at
 pub record IsReady (ps : Places) (h : State Value) (m : Memory) : Type 0 where
-  pub apart : IsApart m.reach.image ps
-  pub fits : Fits m.reach
+  pub apart : IsApart m.space.image ps
+  pub fits : Fits m.space
   pub aligned : offset_of h.pc % FETCH_BYTES ≡ 0
   pub below : offset_of h.pc < 2 ^ 64
 
@@ -60,16 +57,5 @@ pub record Agrees (o : Outcome) (found : plain.Outcome) : Type 0 where
   pub end : found.end ≡ end_of o.finish
   pub notes : found.memory.notes ≡ map number_or_zero o.memory.notes
   pub queue : o.memory.queue ≡ map Num found.memory.queue
-  pub writable : o.memory.reach.writable ≡ numbers_of (writable_of found)
-  pub fixed : o.memory.reach.fixed ≡ numbers_of (fixed_data_of found)
-
--- a call of a module whose data and device queue are these numbers
-abbrev pub run_from : Image → ℕ → List ℕ → List ℕ → List ℕ → ℕ → List ℕ → Run
-run_from i fuel writable fixed queue offset args =
-    run_of i fuel (record { writable = numbers_of writable; fixed = numbers_of fixed; queue = map Num queue }) (record { offset = offset; args = args })
-
--- the plain machine's call of the same, under these places
-abbrev pub plain_from : Image → Places → ℕ → List ℕ → List ℕ → List ℕ → ℕ → List ℕ → plain.Outcome
-plain_from i ps fuel writable fixed queue offset args =
-    plain.plain_call fuel ((base_of ps.movable + offset) % 2 ^ 64) args (base_of ps.stack + STACK_PAGES * PAGE_BYTES)
-    (plain.at_start (segments_of i ps.movable ps.stack fresh_stack fixed writable) [] queue)
+  pub writable : o.memory.space.writable ≡ numbers_of (writable_of found)
+  pub fixed : o.memory.space.fixed ≡ numbers_of (fixed_data_of found)

@@ -2,14 +2,15 @@
 use Rattle.std.specs.Prelude.{◌≡◌, ◌≢◌, ℕ, ◌+◌, ◌*◌, ◌%◌, ◌^◌, List, length, map, slice_index}
 use Rattle.byteorder.specs.Endian.{little_bytes}
 use Rattle.ad_base.specs.declared.image.Image.{Image}
-use Rattle.ad_base.specs.declared.layout.TheConstants.{PAGE_BYTES, STACK_PAGES}
+use Rattle.ad_base.specs.declared.layout.TheConstants.{PAGE_BYTES, STACK_PAGES, WORD_BYTES}
 use Rattle.ad_base.specs.declared.place.Place.{Place}
+use Rattle.ad_base.specs.Book.{Contents}
 use Rattle.ad_base.specs.Image.{IsWhole, movable_pages}
 use Rattle.ad_base.specs.Place.{base_of, IsModulePlace, IsPlace}
 use Rattle.ad_core.specs.Segments.{Segment}
 use Rattle.ad_core.specs.Image.{segments_of}
 use Rattle.ad_symbolic.specs.Value.{At, Byte, Movable, Num, Number, OfAddress, Part, Stack, Value}
-use Rattle.ad_symbolic.specs.Access.{Reach}
+use Rattle.ad_symbolic.specs.AddressSpace.{AddressSpace}
 
 -- where the movable part and the stack lie
 pub record Places : Type 0 where
@@ -28,11 +29,11 @@ number_at ps (At p o) = (base_at ps p + o) % 2 ^ 64
 -- the number that a byte stands for
 abbrev pub byte_at : Places → Byte → ℕ
 byte_at ps (Number n) = n
-byte_at ps (OfAddress i p o) = slice_index (little_bytes 8 ((base_at ps p + o) % 2 ^ 64)) i
+byte_at ps (OfAddress i p o) = slice_index (little_bytes WORD_BYTES ((base_at ps p + o) % 2 ^ 64)) i
 
--- the segments that a reach stands for
-abbrev pub segments_at : Places → Reach → List Segment
-segments_at ps r = segments_of r.image ps.movable ps.stack (map (byte_at ps) r.stack) (map (byte_at ps) r.fixed) (map (byte_at ps) r.writable)
+-- the segments that an address space stands for
+abbrev pub segments_at : Places → AddressSpace → List Segment
+segments_at ps space = segments_of space.image ps.movable ps.stack (map (byte_at ps) space.stack) (map (byte_at ps) space.fixed) (map (byte_at ps) space.writable)
 
 -- The image is whole, the movable part and the stack have places of their pages, and these two and the
 -- immovable part lie in different regions.
@@ -47,7 +48,12 @@ pub record IsApart (i : Image) (ps : Places) : Type 0 where
   pub stack_fixed : ps.stack.region ≢ i.fixed.region
 
 -- data and stack are as long as their pages
-pub record Fits (r : Reach) : Type 0 where
-  pub writable : length r.writable ≡ r.image.data_pages * PAGE_BYTES
-  pub fixed : length r.fixed ≡ r.image.fixed_data_pages * PAGE_BYTES
-  pub stack : length r.stack ≡ STACK_PAGES * PAGE_BYTES
+pub record Fits (space : AddressSpace) : Type 0 where
+  pub writable : length space.writable ≡ space.image.data_pages * PAGE_BYTES
+  pub fixed : length space.fixed ≡ space.image.fixed_data_pages * PAGE_BYTES
+  pub stack : length space.stack ≡ STACK_PAGES * PAGE_BYTES
+
+-- the data of a book is as long as the image's pages of data
+pub record DataFits (i : Image) (book : Contents) : Type 0 where
+  pub writable : length book.writable ≡ i.data_pages * PAGE_BYTES
+  pub fixed : length book.fixed ≡ i.fixed_data_pages * PAGE_BYTES

@@ -1,18 +1,23 @@
 //! Laws of related states. Each function makes no call: its contract is the law.
 
-ghost use Rattle.std.specs.Prelude.{◌≡◌, ℕ, ◌+◌, ◌-◌, ◌*◌, ◌%◌, ◌^◌, ◌<◌, ◌++◌, List, length, map, true, Result, Ok};
+ghost use Rattle.std.specs.Prelude.{◌≡◌, ℕ, ◌+◌, ◌-◌, ◌*◌, ◌%◌, ◌^◌, ◌<◌, ◌++◌, List, map, true, Result, Ok};
 ghost use Rattle.ad_base.specs.declared.end.End.{End};
 ghost use Rattle.ad_base.specs.declared.image.Image.{Image};
 ghost use Rattle.ad_base.specs.Place.{base_of};
-ghost use Rattle.ad_core.specs.Plain as plain;
-ghost use Rattle.ad_core.specs.Segments.{Touch, fetched, touches_of_fetch};
+ghost use Rattle.ad_base.specs.Book.{Contents};
+ghost use Rattle.ad_base.specs.Image.{IsWhole};
+ghost use Rattle.ad_core.specs.Plain as machine;
+ghost use Rattle.ad_core.specs.Turn.{IsLawful, plain};
+ghost use Rattle.ad_core.specs.Segments.{Access, fetched, accesses_of_fetch};
 ghost use Rattle.ad_isa.specs.Step.{State, Next, Goes};
-ghost use Rattle.ad_symbolic.specs.Access.{Reach, fetched_value};
+ghost use Rattle.ad_symbolic.specs.AddressSpace.{AddressSpace, fetched_value};
 ghost use Rattle.ad_symbolic.specs.Machine as symbolic;
-ghost use Rattle.ad_symbolic.specs.Replay.{keeps_none};
+ghost use Rattle.ad_symbolic.specs.Replay.{Asked, clear_calls, keeps_none, kept_of, run_of};
 ghost use Rattle.ad_symbolic.specs.Value.{Value, even_of, offset_of, sum_of};
-ghost use Rattle.ad_relate.specs.Machines.{Agrees, IsReady, StandsFor, memory_at, next_at, plain_from, run_from, state_at};
-ghost use Rattle.ad_relate.specs.Stands.{number_at, segments_at, Fits, IsApart, Places};
+ghost use Rattle.ad_relate.specs.Machines.{Agrees, IsReady, StandsFor, memory_at, next_at, state_at};
+ghost use Rattle.ad_relate.specs.Stands.{number_at, segments_at, DataFits, Fits, IsApart, Places};
+ghost use Rattle.ad_relate.specs.ClearHistory.{AreOffsets, ArePlacedApart, RepliesAsReplayed, answers_of};
+ghost use Rattle.ad_relate.specs.Examples.{sum_book, sum_image};
 
 use ad_base::{FETCH_BYTES, PAGE_BYTES, STACK_PAGES};
 
@@ -31,19 +36,19 @@ pub fn law_values()
 /// the number of the value, wherever the movable part and the stack lie: the same word, or the same
 /// end. The value is a number, or an address at an offset below 2^64, that may be fetched at.
 pub fn law_fetch()
-    ensures { (r : Reach) (ps : Places) → IsApart r.image ps → Fits r
+    ensures { (space : AddressSpace) (ps : Places) → IsApart space.image ps → Fits space
         → (v : Value) (found : Result ℕ End) → offset_of v < 2 ^ 64 → offset_of v % FETCH_BYTES ≡ 0
-        → fetched_value r v ≡ Ok found
-        → plain.word_or_end (fetched (segments_at ps r) (number_at ps v)) ≡ found }
+        → fetched_value space v ≡ Ok found
+        → machine.word_or_end (fetched (segments_at ps space) (number_at ps v)) ≡ found }
 {}
 
 /// A clear step stands for the plain machine's step, wherever the movable part and the stack lie, and
 /// where it goes on, the next step is ready too.
 pub fn law_step()
-    ensures stands { (ps : Places) (h : State Value) (m : symbolic.Memory) (touched : List Touch) (next : Next Value symbolic.Memory)
+    ensures stands { (ps : Places) (h : State Value) (m : symbolic.Memory) (accesses : List Access) (next : Next Value symbolic.Memory)
         → IsReady ps h m → symbolic.symbolic_step h m ≡ Ok next
-        → plain.plain_step (state_at ps h) (memory_at ps touched m)
-        ≡ next_at ps (touched ++ touches_of_fetch (number_at ps h.pc)) next }
+        → machine.plain_step (state_at ps h) (memory_at ps accesses m)
+        ≡ next_at ps (accesses ++ accesses_of_fetch (number_at ps h.pc)) next }
     ensures ready { (ps : Places) (h after : State Value) (m memory : symbolic.Memory)
         → IsReady ps h m → symbolic.symbolic_step h m ≡ Ok (Goes after memory)
         → IsReady ps after memory }
@@ -54,22 +59,42 @@ pub fn law_step()
 /// sp: it ends so, and leaves these segments, notes and words of the device queue. Since this holds for
 /// each number of steps, both end at the same step.
 pub fn law_run()
-    ensures run { (ps : Places) (fuel made : ℕ) (touched : List Touch) (h : State Value) (m : symbolic.Memory) (o : symbolic.Outcome)
+    ensures run { (ps : Places) (fuel made : ℕ) (accesses : List Access) (h : State Value) (m : symbolic.Memory) (o : symbolic.Outcome)
         → IsReady ps h m → symbolic.run fuel made h m ≡ Ok o
-        → StandsFor ps o (plain.run fuel (state_at ps h) (memory_at ps touched m)) }
+        → StandsFor ps o (machine.run fuel (state_at ps h) (memory_at ps accesses m)) }
     ensures call { (ps : Places) (fuel offset : ℕ) (args : List ℕ) (m : symbolic.Memory) (o : symbolic.Outcome)
-        → IsApart m.reach.image ps → Fits m.reach → offset < 2 ^ 64
+        → IsApart m.space.image ps → Fits m.space → offset < 2 ^ 64
         → symbolic.symbolic_call fuel offset args m ≡ Ok o
-        → StandsFor ps o (plain.plain_call fuel ((base_of ps.movable + offset) % 2 ^ 64) args
+        → StandsFor ps o (machine.plain_call fuel ((base_of ps.movable + offset) % 2 ^ 64) args
         (base_of ps.stack + STACK_PAGES * PAGE_BYTES)
-        (plain.at_start (segments_at ps m.reach) (map (number_at ps) m.notes) (map (number_at ps) m.queue))) }
+        (machine.at_start (segments_at ps m.space) (map (number_at ps) m.notes) (map (number_at ps) m.queue))) }
 {}
 
 /// A clear call, which keeps no address, and the plain machine's call of the same, wherever the movable part
 /// and the stack lie, have the same end, notes, data and device queue.
 pub fn law_clear()
-    ensures { (i : Image) (ps : Places) (fuel offset : ℕ) (args writable fixed queue : List ℕ) (o : symbolic.Outcome)
-        → IsApart i ps → length writable ≡ i.data_pages * PAGE_BYTES → length fixed ≡ i.fixed_data_pages * PAGE_BYTES
-        → offset < 2 ^ 64 → run_from i fuel writable fixed queue offset args ≡ Ok o → keeps_none o ≡ true
-        → Agrees o (plain_from i ps fuel writable fixed queue offset args) }
+    ensures { (i : Image) (ps : Places) (fuel : ℕ) (book : Contents) (call : Asked) (o : symbolic.Outcome)
+        → IsApart i ps → DataFits i book → call.offset < 2 ^ 64
+        → run_of i fuel (kept_of book) call ≡ Ok o → keeps_none o ≡ true
+        → Agrees o (plain i fuel book ps.movable ps.stack call.offset call.args) }
+{}
+
+/// The calls of a lawful book that are clear reply as the symbolic machine says, which knows no place of the
+/// movable part and none of the stack: each entry of the clear history has the end and the notes that replay
+/// gives, whatever places the calls ran at, so long as each call's places were apart. So these replies don't
+/// depend on a move.
+pub fn law_clear_history()
+    ensures { (i : Image) (fuel : ℕ) (book : Contents)
+        → IsWhole i → IsLawful i fuel book → ArePlacedApart i book.entries → AreOffsets i
+        → RepliesAsReplayed i fuel book.entries }
+{}
+
+/// A worked example: the book of two calls of a module that adds, which moved between them, is one of which the law
+/// of the clear history speaks, and both calls are in its clear history.
+pub fn law_worked_history()
+    ensures whole { IsWhole sum_image }
+    ensures lawful { IsLawful sum_image 100 sum_book }
+    ensures apart { ArePlacedApart sum_image sum_book.entries }
+    ensures offsets { AreOffsets sum_image }
+    ensures clear { clear_calls (answers_of sum_image 100 sum_book.entries) ≡ 2 }
 {}

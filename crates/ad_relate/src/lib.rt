@@ -4,4 +4,6 @@
 
 mod laws;
 
-pub use laws::{law_clear, law_fetch, law_run, law_step, law_values};
+pub use laws::{
+    law_clear, law_clear_history, law_fetch, law_run, law_step, law_values, law_worked_history,
+};

@@ -1,5 +1,7 @@
 pub mod ArgumentText
+pub mod InRange
 pub mod LoadText
+pub mod OneScript
 pub mod Splitting
 pub mod StepText
 pub mod StepsText

@@ -4,13 +4,18 @@ ghost use Rattle.std.specs.Prelude.{◌≡◌, ◌+◌, ◌≤◌, ℕ, List, So
 ghost use Rattle.std.specs.Str.{IsUtf8};
 ghost use Rattle.ad_script.specs.declared.script.Script.{Script};
 ghost use Rattle.ad_script.specs.declared.script.Step.{Step};
-ghost use Rattle.ad_script.specs.Script.{IsFileName, IsScript, line_of};
+ghost use Rattle.ad_script.specs.Script.{IsFileName, IsInRange, IsScript, line_of};
 
 use crate::script::SCRIPT_LINES;
 
 /// A text says one script.
 pub fn law_one_script()
     ensures { (bytes : List ℕ) (s t : Script) → IsScript bytes s → IsScript bytes t → s ≡ t }
+{}
+
+/// The numbers that a script says are in range.
+pub fn law_in_range()
+    ensures { (bytes : List ℕ) (s : Script) → IsScript bytes s → IsInRange s }
 {}
 
 /// Lines are counted from 1, and the steps begin at the second line.

@@ -9,9 +9,9 @@ mod read;
 mod script;
 mod split;
 
-pub use laws::{law_file_names_are_text, law_lines, law_most_lines, law_one_script};
+pub use laws::{law_file_names_are_text, law_in_range, law_lines, law_most_lines, law_one_script};
 pub use read::read_script;
-pub use script::{SCRIPT_LINES, Script, Step};
+pub use script::{Load, Members, SCRIPT_LINES, Script, Step};
 
 #[cfg(test)]
 mod tests;

@@ -8,7 +8,7 @@ ghost use Rattle.ad_script.specs.Split.{Splits};
 
 use crate::arguments::arguments;
 use crate::names::{is_file_name, is_module_name};
-use crate::script::Step;
+use crate::script::{Members, Step};
 use crate::split::{split_before, strip_front};
 use ad_base::{Args, Name, OutOfMemory, is_export_name};
 use std::alloc::Global;
@@ -75,12 +75,30 @@ pub fn step_line(
         };
         let export = Name::of(alloc, call.export)?;
         let args = call.args;
-        return Ok(Some(Step::Call { line, export, args }));
+        return Ok(Some(Step::Call {
+            line,
+            worker: 0,
+            module: 0,
+            export,
+            args,
+        }));
     }
     match strip_front(text, b"move ") {
-        Some(moved) if moved == name => Ok(Some(Step::Move { line })),
+        Some(moved) if moved == name => {
+            let modules = first_module();
+            Ok(Some(Step::Move { line, modules }))
+        }
         _ => Ok(None),
     }
+}
+
+/// The number of the first module, alone.
+fn first_module() -> Members
+    ensures { result ≡ 0 ∷ [] }
+{
+    let mut modules = Members::new();
+    modules.push(0);
+    modules
 }
 
 /// What a line says that calls an export.

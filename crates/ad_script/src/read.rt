@@ -6,7 +6,7 @@ ghost use Rattle.ad_script.specs.declared.script.Step.{Step};
 ghost use Rattle.ad_script.specs.Script.{IsModuleName, AreStepsText, IsScript};
 
 use crate::lines::{load_line, next_line, step_line};
-use crate::script::{SCRIPT_LINES, Script, Step};
+use crate::script::{Load, SCRIPT_LINES, Script, Step};
 use ad_base::{Name, OutOfMemory, Sequence};
 use std::alloc::Global;
 
@@ -21,9 +21,14 @@ pub fn read_script(alloc: Global, bytes: &[u8]) -> Result<Option<Script>, OutOfM
     let Some(steps) = read_steps(alloc, load.rest, load.name)? else {
         return Ok(None);
     };
-    Ok(Some(Script {
+    let load = Load {
+        line: 1,
         name: Name::of(alloc, load.name)?,
         file: Name::of(alloc, load.file)?,
+    };
+    Ok(Some(Script {
+        workers: 1,
+        loads: Sequence::of(vec![in alloc; load]?),
         steps,
     }))
 }

@@ -1,37 +1,64 @@
 //! What a script says.
 
-use ad_base::{Args, Name, Sequence};
+use ad_base::{Args, Name, Sequence, Words};
 
-/// The most lines that a script may have, the line that loads the module included.
+/// The most lines that a script may have, those that load its modules included.
 pub const SCRIPT_LINES: u64 = 20_000;
 
 /// What a script says.
 #[derive(Debug, Drop)]
 pub struct Script {
+    /// How many workers there are. They are numbered from 0.
+    pub workers: u64,
+    /// The modules, in order. They are numbered from 0.
+    pub loads: Sequence<Load>,
+    /// The lines that call exports, move modules and change stacks, in order.
+    pub steps: Sequence<Step>,
+}
+
+/// A line that loads a module. Lines are counted from 1.
+#[derive(Debug, Drop)]
+pub struct Load {
+    /// The number of the line.
+    pub line: u64,
     /// The name of the module.
     pub name: Name,
     /// The name of the module's file.
     pub file: Name,
-    /// The lines behind the first, in order.
-    pub steps: Sequence<Step>,
 }
 
-/// A line behind the first. Lines are counted from 1.
+/// The numbers of the modules that a line moves: at most as many as a script may load.
+pub type Members = Words<8>;
+
+/// A line behind those that load modules. Lines are counted from 1.
 #[derive(Debug, Drop)]
 pub enum Step {
-    /// An export of the module is called.
+    /// An export of a module is called.
     Call {
         /// The number of the line.
         line: u64,
+        /// The number of the worker that calls.
+        worker: u64,
+        /// The number of the module.
+        module: u64,
         /// The name of the export.
         export: Name,
         /// The arguments of the call.
         args: Args,
     },
-    /// The module is moved.
+    /// Modules are moved.
     Move {
         /// The number of the line.
         line: u64,
+        /// The numbers of the modules, in the order in which they are moved.
+        modules: Members,
+    },
+    /// A worker gets a fresh stack.
+    Stack {
+        /// The number of the line.
+        line: u64,
+        /// The number of the worker.
+        worker: u64,
     },
 }
 
@@ -44,7 +71,7 @@ impl Step {
         ensures { result ≡ line_of self.now }
     {
         match self {
-            Step::Call { line, .. } | Step::Move { line } => *line,
+            Step::Call { line, .. } | Step::Move { line, .. } | Step::Stack { line, .. } => *line,
         }
     }
 }

@@ -3,7 +3,10 @@
 ghost use Rattle.std.specs.Prelude.{◌≡◌};
 ghost use Rattle.ad_script.specs.Script.{IsFileName};
 
-use crate::{SCRIPT_LINES, Step, law_file_names_are_text, law_lines, law_one_script, read_script};
+use crate::{
+    SCRIPT_LINES, Step, law_file_names_are_text, law_in_range, law_lines, law_most_lines,
+    law_one_script, read_script,
+};
 use ad_base::{Name, OutOfMemory};
 use std::alloc::Global;
 use std::test::Fail;
@@ -123,17 +126,21 @@ fn has_at_most_20_000_lines(rt: HostRuntime) -> Result<(), Fail> {
 
 fn is_call(step: &Step, line: u64, name: &[u8], words: &[u64]) -> bool {
     match step {
-        Step::Call { export, args, .. } => {
-            step.line() == line && export.bytes() == name && args.as_slice() == words
-        }
-        Step::Move { .. } => false,
+        Step::Call {
+            worker: 0,
+            module: 0,
+            export,
+            args,
+            ..
+        } => step.line() == line && export.bytes() == name && args.as_slice() == words,
+        _ => false,
     }
 }
 
 fn is_move(step: &Step, line: u64) -> bool {
     match step {
-        Step::Call { .. } => false,
-        Step::Move { .. } => step.line() == line,
+        Step::Move { modules, .. } => step.line() == line && modules.as_slice() == [0].as_slice(),
+        _ => false,
     }
 }
 
@@ -142,8 +149,13 @@ fn reads_each_part(rt: HostRuntime) -> Result<(), Fail> {
     let text = b"load square examples/square.o\nmove square\n\
         call 0 square.main.1 007 18446744073709551615\ncall 0 square.e\n";
     let script = read_script(rt.alloc(), text)?.ok_or("the text is a script")?;
-    assert_eq!(rt; script.name.bytes(), b"square".as_slice());
-    assert_eq!(rt; file_text(&script.file), "examples/square.o");
+    assert_eq!(rt; script.workers, 1);
+    let loads = script.loads.as_slice();
+    assert_eq!(rt; loads.len(), 1);
+    assert_eq!(rt; loads[0].line, 1);
+    assert_eq!(rt; loads[0].name.bytes(), b"square".as_slice());
+    law_in_range();
+    assert_eq!(rt; file_text(&loads[0].file), "examples/square.o");
     let steps = script.steps.as_slice();
     assert_eq!(rt; steps.len(), 3);
     assert!(rt; is_move(&steps[0], 2));
@@ -155,7 +167,9 @@ fn reads_each_part(rt: HostRuntime) -> Result<(), Fail> {
 #[test]
 fn laws_are_called() {
     law_one_script();
+    law_in_range();
     law_lines();
+    law_most_lines();
 }
 
 /// The name of a file as text, as a caller makes it.

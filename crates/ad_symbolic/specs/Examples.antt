@@ -1,21 +1,65 @@
--- What calls reach in worked examples.
-use Rattle.std.specs.Prelude.{[], ◌∷◌}
+-- Images, address spaces, calls and outcomes of worked examples.
+use Rattle.std.specs.Prelude.{ℕ, ◌+◌, ◌-◌, ◌*◌, List, [], ◌∷◌, ◌++◌, length, codes}
+use Rattle.std.specs.List.{flat_map}
+use Rattle.byteorder.specs.Endian.{little_bytes}
 use Rattle.ad_base.specs.declared.image.Image.{Image}
-use Rattle.ad_symbolic.specs.Access.{Reach}
+use Rattle.ad_base.specs.declared.layout.TheConstants.{INSTRUCTION_BYTES, PAGE_BYTES, STUB_PAGES, TABLE_PAGES}
+use Rattle.ad_base.specs.declared.place.Place.{Place}
+use Rattle.ad_base.specs.Image.{zeros}
+use Rattle.ad_symbolic.specs.AddressSpace.{AddressSpace}
 use Rattle.ad_symbolic.specs.Machine.{Outcome, Returns, fresh_stack}
+use Rattle.ad_symbolic.specs.Replay.{Asked}
 use Rattle.ad_symbolic.specs.Value.{Byte, Value}
 
 -- an image, with no data and a fresh stack
-abbrev pub reach_of : Image → Reach
-reach_of i = record { image = i; writable = []; fixed = []; stack = fresh_stack }
+abbrev pub space_of : Image → AddressSpace
+space_of i = record { image = i; writable = []; fixed = []; stack = fresh_stack }
 
 -- a run that ended with these: a byte of the data of each part, a note, a word of the queue and what it returns
-abbrev pub kept_of : Image → Byte → Byte → Value → Value → Value → Outcome
-kept_of i writable fixed note word returned = record {
+abbrev pub ended_with : Image → Byte → Byte → Value → Value → Value → Outcome
+ended_with i writable fixed note word returned = record {
   finish = Returns returned;
   memory = record {
-    reach = record { image = i; writable = writable ∷ []; fixed = fixed ∷ []; stack = fresh_stack };
+    space = record { image = i; writable = writable ∷ []; fixed = fixed ∷ []; stack = fresh_stack };
     notes = note ∷ [];
     queue = word ∷ [];
   };
 }
+
+-- the module of these instruction words, at most a page of them, which are its one export, and of nothing else;
+-- its immovable part lies at a place
+abbrev pub image_of : List ℕ → Place → Image
+image_of words fixed =
+    let text = flat_map (little_bytes INSTRUCTION_BYTES) words in
+    record {
+      text_pages = 1;
+      read_pages = 0;
+      data_pages = 0;
+      code = text ++ zeros ((1 + STUB_PAGES) * PAGE_BYTES - length text);
+      cells = [];
+      writable = [];
+      table = [];
+      fixed_text_pages = 0;
+      fixed_read_pages = 0;
+      fixed_data_pages = 0;
+      fixed_code = zeros (STUB_PAGES * PAGE_BYTES);
+      fixed_data = [];
+      fixed = fixed;
+      exports = record { name = codes "main"; offset = 0 } ∷ [];
+    }
+
+-- a call at the start of the text, with these arguments
+abbrev pub asked : List ℕ → Asked
+asked args = record { offset = 0; args = args }
+
+-- add a0, a0, a1; ret
+abbrev pub sum_words : List ℕ
+sum_words = 0x00b50533 ∷ 0x00008067 ∷ []
+
+-- jr a0
+abbrev pub jump_words : List ℕ
+jump_words = 0x00050067 ∷ []
+
+-- a place of such an immovable part, at 7715426304
+abbrev pub fixed_place : Place
+fixed_place = record { region = 29432; start = 1; pages = STUB_PAGES + TABLE_PAGES; mapping = 2; frame = 0 }

@@ -1,5 +1,5 @@
 pub mod Value
-pub mod Access
+pub mod AddressSpace
 pub mod Machine
 pub mod Replay
 pub mod Examples

@@ -9,16 +9,16 @@ use Rattle.ad_isa.specs.Step.{State, Storage, Next, Goes, Ends, execute}
 use Rattle.ad_isa.specs.Table.{decoded}
 use Rattle.ad_isa.specs.declared.instr.Instr.{Instr}
 use Rattle.ad_symbolic.specs.Value.{Address, Arithmetic, At, Byte, Movable, Num, Number, Reason, Stack, Value, values}
-use Rattle.ad_symbolic.specs.Access.{Reach, fetched_value}
+use Rattle.ad_symbolic.specs.AddressSpace.{AddressSpace, fetched_value}
 
--- what the machine keeps beside its registers: what it reaches, the notes and the device queue
+-- what the machine keeps beside its registers: its address space, the notes and the device queue
 pub record Memory : Type 0 where
-  pub reach : Reach
+  pub space : AddressSpace
   pub notes : List Value
   pub queue : List Value
 
 abbrev pub symbolic_storage : Storage Value Memory Reason
-symbolic_storage = record { fetch = λ m at. fetched_value m.reach at >>= λ found. Ok (found, m) }
+symbolic_storage = record { fetch = λ m at. fetched_value m.space at >>= λ found. Ok (found, m) }
 
 -- what a word comes to: one that no row has isn't clear
 abbrev pub known : State Value → Memory → Option Instr → Result (Next Value Memory) Reason
@@ -31,7 +31,7 @@ found h m (Ok word) = known h m (decoded word)
 found h m (Err end) = Ok (Ends end m)
 
 unfoldable pub symbolic_step : State Value → Memory → Result (Next Value Memory) Reason
-symbolic_step h m = fetched_value m.reach h.pc >>= found h m
+symbolic_step h m = fetched_value m.space h.pc >>= found h m
 
 -- how a run ended: with a value at the gate, or otherwise
 pub data Finish : Type 0 where
@@ -59,7 +59,7 @@ unless_at_gate h m otherwise = elim h.pc [ Num n ↦ (if n == GATE then Ok (reco
 abbrev pub spent : ℕ → State Value → Memory → Run
 spent made h m = elim h.pc [
   | Num n ↦ Ok (record { finish = Stops ends.Fuel; memory = m })
-  | At p o ↦ elim (fetched_value m.reach (At p o)) [ Ok x ↦ Ok (record { finish = Stops ends.Fuel; memory = m }) | Err reason ↦ Err (record { reason = Address; step = made }) ]
+  | At p o ↦ elim (fetched_value m.space (At p o)) [ Ok x ↦ Ok (record { finish = Stops ends.Fuel; memory = m }) | Err reason ↦ Err (record { reason = Address; step = made }) ]
 ]
 
 -- what follows a step

@@ -4,8 +4,10 @@ use Rattle.std.specs.List.{list_all}
 use Rattle.ad_base.specs.declared.end.End.{End}
 use Rattle.ad_base.specs.declared.end.End.TheVariants as ends
 use Rattle.ad_base.specs.declared.image.Image.{Image}
+use Rattle.ad_base.specs.Book.{Contents}
+use Rattle.ad_core.specs.Turn.{opening_contents}
 use Rattle.ad_symbolic.specs.Value.{At, Byte, Num, Number, OfAddress, Reason, Value}
-use Rattle.ad_symbolic.specs.Access.{numbers_of}
+use Rattle.ad_symbolic.specs.AddressSpace.{numbers_of}
 use Rattle.ad_symbolic.specs.Machine.{Finish, Outcome, Returns, Run, Stops, fresh_stack, symbolic_call}
 
 -- nothing of it comes from an address
@@ -25,7 +27,7 @@ is_number_end (Stops end) = true
 -- queue and no number that is returned comes from one.
 abbrev pub keeps_none : Outcome → Bool
 keeps_none o =
-    list_all is_number_byte o.memory.reach.writable && list_all is_number_byte o.memory.reach.fixed
+    list_all is_number_byte o.memory.space.writable && list_all is_number_byte o.memory.space.fixed
     && list_all is_number o.memory.notes && list_all is_number o.memory.queue && is_number_end o.finish
 
 -- the number of a value, which is none where it comes from an address
@@ -55,6 +57,10 @@ pub record Kept : Type 0 where
   pub fixed : List Byte
   pub queue : List Value
 
+-- what it keeps, where its book holds these numbers
+abbrev pub kept_of : Contents → Kept
+kept_of book = record { writable = numbers_of book.writable; fixed = numbers_of book.fixed; queue = map Num book.device }
+
 -- a call: the offset of its export, and its arguments
 pub record Asked : Type 0 where
   pub offset : ℕ
@@ -64,7 +70,7 @@ pub record Asked : Type 0 where
 abbrev pub run_of : Image → ℕ → Kept → Asked → Run
 run_of i fuel k a =
     symbolic_call fuel a.offset a.args
-    (record { reach = record { image = i; writable = k.writable; fixed = k.fixed; stack = fresh_stack }; notes = []; queue = k.queue })
+    (record { space = record { image = i; writable = k.writable; fixed = k.fixed; stack = fresh_stack }; notes = []; queue = k.queue })
 
 abbrev pub answer_of : Run → Answer
 answer_of (Ok o) = if keeps_none o then Clear (end_of o.finish) (map number_or_zero o.memory.notes) else Keeps
@@ -73,7 +79,7 @@ answer_of (Err u) = NotClear u.reason u.step
 -- what a call leaves, if it is clear
 abbrev pub left_by : Run → Option Kept
 left_by (Ok o) =
-    if keeps_none o then Some (record { writable = o.memory.reach.writable; fixed = o.memory.reach.fixed; queue = o.memory.queue }) else None
+    if keeps_none o then Some (record { writable = o.memory.space.writable; fixed = o.memory.space.fixed; queue = o.memory.queue }) else None
 left_by (Err u) = None
 
 -- the answers for calls in order, each beginning with what the call before left; behind the first that isn't
@@ -83,9 +89,9 @@ answers_from i fuel k [] = []
 answers_from i fuel None (a ∷ more) = Lost ∷ answers_from i fuel None more
 answers_from i fuel (Some k) (a ∷ more) = answer_of (run_of i fuel k a) ∷ answers_from i fuel (left_by (run_of i fuel k a)) more
 
--- it begins with the image's data and an empty queue
+-- it begins with what the image's book holds before the first call
 unfoldable pub replay : Image → ℕ → List Asked → List Answer
-replay i fuel calls = answers_from i fuel (Some (record { writable = numbers_of i.writable; fixed = numbers_of i.fixed_data; queue = [] })) calls
+replay i fuel calls = answers_from i fuel (Some (kept_of (opening_contents i))) calls
 
 abbrev pub is_clear : Answer → Bool
 is_clear (Clear end notes) = true

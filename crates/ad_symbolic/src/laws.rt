@@ -1,11 +1,12 @@
 //! Worked examples of the symbolic machine. Each function makes no call: its contract is the example.
 
-ghost use Rattle.std.specs.Prelude.{◌≡◌, ◌-◌, ◌^◌, ℕ, Ok, Err, true, false};
+ghost use Rattle.std.specs.Prelude.{◌≡◌, ◌-◌, ◌^◌, ℕ, [], ◌∷◌, Ok, Err, true, false};
 ghost use Rattle.ad_base.specs.declared.image.Image.{Image};
+ghost use Rattle.ad_base.specs.declared.place.Place.{Place};
 ghost use Rattle.ad_symbolic.specs.Value.{Address, Arithmetic, At, Movable, Num, Number, OfAddress, Part, Stack, even_of, sum_of};
-ghost use Rattle.ad_symbolic.specs.Access.{fetched_value};
-ghost use Rattle.ad_symbolic.specs.Replay.{keeps_none};
-ghost use Rattle.ad_symbolic.specs.Examples.{kept_of, reach_of};
+ghost use Rattle.ad_symbolic.specs.AddressSpace.{fetched_value};
+ghost use Rattle.ad_symbolic.specs.Replay.{Clear, Keeps, Lost, NotClear, clear_calls, keeps_none, replay};
+ghost use Rattle.ad_symbolic.specs.Examples.{asked, ended_with, fixed_place, image_of, jump_words, space_of, sum_words};
 
 use ad_base::End;
 
@@ -22,24 +23,82 @@ pub fn law_worked_values()
 /// What is found where an instruction is fetched: in the stack, which may not be fetched, beside it and far
 /// from it; and at numbers before and behind all regions.
 pub fn law_worked_fetches()
-    ensures denied { (i : Image) → fetched_value (reach_of i) (At Stack 16) ≡ Ok (Err End.Denied) }
-    ensures misaligned { (i : Image) → fetched_value (reach_of i) (At Stack 18) ≡ Ok (Err End.Misaligned) }
-    ensures behind { (i : Image) → fetched_value (reach_of i) (At Stack 16384) ≡ Ok (Err End.Fault) }
-    ensures far_behind { (i : Image) → fetched_value (reach_of i) (At Stack 20476) ≡ Ok (Err End.Fault) }
-    ensures a_page_behind { (i : Image) → fetched_value (reach_of i) (At Stack 20480) ≡ Err Address }
-    ensures before { (i : Image) → fetched_value (reach_of i) (At Stack (2 ^ 64 - 4096)) ≡ Ok (Err End.Fault) }
-    ensures far_before { (i : Image) → fetched_value (reach_of i) (At Stack (2 ^ 64 - 4100)) ≡ Err Address }
-    ensures below_all_places { (i : Image) → fetched_value (reach_of i) (Num 0x7fffc) ≡ Ok (Err End.Fault) }
-    ensures above_all_places { (i : Image) → fetched_value (reach_of i) (Num (2 ^ 34)) ≡ Ok (Err End.Fault) }
+    ensures denied { (i : Image) → fetched_value (space_of i) (At Stack 16) ≡ Ok (Err End.Denied) }
+    ensures misaligned { (i : Image) → fetched_value (space_of i) (At Stack 18) ≡ Ok (Err End.Misaligned) }
+    ensures behind { (i : Image) → fetched_value (space_of i) (At Stack 16384) ≡ Ok (Err End.Fault) }
+    ensures far_behind { (i : Image) → fetched_value (space_of i) (At Stack 20476) ≡ Ok (Err End.Fault) }
+    ensures a_page_behind { (i : Image) → fetched_value (space_of i) (At Stack 20480) ≡ Err Address }
+    ensures before { (i : Image) → fetched_value (space_of i) (At Stack (2 ^ 64 - 4096)) ≡ Ok (Err End.Fault) }
+    ensures far_before { (i : Image) → fetched_value (space_of i) (At Stack (2 ^ 64 - 4100)) ≡ Err Address }
+    ensures below_all_places { (i : Image) → fetched_value (space_of i) (Num 0x7fffc) ≡ Ok (Err End.Fault) }
+    ensures above_all_places { (i : Image) → fetched_value (space_of i) (Num (2 ^ 34)) ≡ Ok (Err End.Fault) }
 {}
 
 /// A run keeps an address where a byte of the data of either part, a note, a word of the device queue or the
 /// number that is returned comes from one; and it keeps none where all these are numbers.
 pub fn law_worked_keeps()
-    ensures numbers { (i : Image) → keeps_none (kept_of i (Number 1) (Number 2) (Num 3) (Num 4) (Num 5)) ≡ true }
-    ensures writable { (i : Image) → keeps_none (kept_of i (OfAddress 0 Movable 8) (Number 2) (Num 3) (Num 4) (Num 5)) ≡ false }
-    ensures fixed { (i : Image) → keeps_none (kept_of i (Number 1) (OfAddress 7 Stack 8) (Num 3) (Num 4) (Num 5)) ≡ false }
-    ensures note { (i : Image) → keeps_none (kept_of i (Number 1) (Number 2) (At Movable 8) (Num 4) (Num 5)) ≡ false }
-    ensures queue { (i : Image) → keeps_none (kept_of i (Number 1) (Number 2) (Num 3) (At Stack 8) (Num 5)) ≡ false }
-    ensures returned { (i : Image) → keeps_none (kept_of i (Number 1) (Number 2) (Num 3) (Num 4) (At Movable 8)) ≡ false }
+    ensures numbers { (i : Image) → keeps_none (ended_with i (Number 1) (Number 2) (Num 3) (Num 4) (Num 5)) ≡ true }
+    ensures writable { (i : Image) → keeps_none (ended_with i (OfAddress 0 Movable 8) (Number 2) (Num 3) (Num 4) (Num 5)) ≡ false }
+    ensures fixed { (i : Image) → keeps_none (ended_with i (Number 1) (OfAddress 7 Stack 8) (Num 3) (Num 4) (Num 5)) ≡ false }
+    ensures note { (i : Image) → keeps_none (ended_with i (Number 1) (Number 2) (At Movable 8) (Num 4) (Num 5)) ≡ false }
+    ensures queue { (i : Image) → keeps_none (ended_with i (Number 1) (Number 2) (Num 3) (At Stack 8) (Num 5)) ≡ false }
+    ensures returned { (i : Image) → keeps_none (ended_with i (Number 1) (Number 2) (Num 3) (Num 4) (At Movable 8)) ≡ false }
+{}
+
+/// What the symbolic machine says of calls of small modules, wherever their immovable parts lie, and how
+/// many calls their clear histories have. The sum of two arguments is clear at each call, and the end of its
+/// fuel too. A module that replies its own address keeps it, and what it replies after that is lost. A sum of
+/// two addresses isn't clear, for its arithmetic, at step 0; nor is a word that is no instruction.
+pub fn law_worked_replays()
+    ensures sum { (fixed : Place)
+        → replay (image_of sum_words fixed) 100 (asked (2 ∷ 3 ∷ []) ∷ asked (4 ∷ 3 ∷ []) ∷ [])
+        ≡ Clear (End.Returned 5) [] ∷ Clear (End.Returned 7) [] ∷ [] }
+    ensures sum_history { (fixed : Place)
+        → clear_calls (replay (image_of sum_words fixed) 100 (asked (2 ∷ 3 ∷ []) ∷ asked (4 ∷ 3 ∷ []) ∷ [])) ≡ 2 }
+    ensures fuel { (fixed : Place)
+        → replay (image_of sum_words fixed) 1 (asked (2 ∷ 3 ∷ []) ∷ [])
+        ≡ Clear End.Fuel [] ∷ [] }
+    ensures own_address { (fixed : Place)
+        → replay (image_of (0x00000517 ∷ 0x00008067 ∷ []) fixed) 100 (asked [] ∷ asked [] ∷ [])
+        ≡ Keeps ∷ Lost ∷ [] }
+    ensures own_address_history { (fixed : Place)
+        → clear_calls (replay (image_of (0x00000517 ∷ 0x00008067 ∷ []) fixed) 100 (asked [] ∷ asked [] ∷ [])) ≡ 0 }
+    ensures sum_of_addresses { (fixed : Place)
+        → replay (image_of (0x00210533 ∷ 0x00008067 ∷ []) fixed) 100 (asked [] ∷ asked [] ∷ [])
+        ≡ NotClear Arithmetic 0 ∷ Lost ∷ [] }
+    ensures sum_of_addresses_dropped { (fixed : Place)
+        → replay (image_of (0x00210033 ∷ 0x00008067 ∷ []) fixed) 100 (asked [] ∷ [])
+        ≡ NotClear Arithmetic 0 ∷ [] }
+    ensures no_instruction { (fixed : Place)
+        → replay (image_of (0x00150513 ∷ 0 ∷ []) fixed) 100 (asked [] ∷ [])
+        ≡ NotClear Arithmetic 1 ∷ [] }
+{}
+
+/// What it says of jumps out of the text: at an offset to the stubs, where no instruction is, to the fixed
+/// table, which may not be fetched from, to the byte behind the part, to the page behind that, where it isn't
+/// clear what lies there, even where no fuel is left for it. And at a number to the fixed table and the stubs of
+/// the immovable part, to the gate, and to an address that another part may have.
+pub fn law_worked_jumps()
+    ensures to_stubs { (fixed : Place)
+        → replay (image_of (0x00001517 ∷ 0x00050067 ∷ []) fixed) 100 (asked [] ∷ [])
+        ≡ NotClear Arithmetic 2 ∷ [] }
+    ensures to_table { (fixed : Place)
+        → replay (image_of (0x00002517 ∷ 0x00050067 ∷ []) fixed) 100 (asked [] ∷ [])
+        ≡ Clear End.Denied [] ∷ [] }
+    ensures behind { (fixed : Place)
+        → replay (image_of (0x00004517 ∷ 0x00050067 ∷ []) fixed) 100 (asked [] ∷ [])
+        ≡ Clear End.Fault [] ∷ [] }
+    ensures far_behind { (fixed : Place)
+        → replay (image_of (0x00005517 ∷ 0x00050067 ∷ []) fixed) 100 (asked [] ∷ [])
+        ≡ NotClear Address 2 ∷ [] }
+    ensures far_behind_spent { (fixed : Place)
+        → replay (image_of (0x00005517 ∷ 0x00050067 ∷ []) fixed) 2 (asked [] ∷ [])
+        ≡ NotClear Address 2 ∷ [] }
+    ensures to_fixed_table { replay (image_of jump_words fixed_place) 100 (asked (7715430400 ∷ []) ∷ [])
+        ≡ Clear End.Denied [] ∷ [] }
+    ensures to_fixed_stubs { replay (image_of jump_words fixed_place) 100 (asked (7715426304 ∷ []) ∷ [])
+        ≡ NotClear Arithmetic 1 ∷ [] }
+    ensures clear_before_unclear { replay (image_of jump_words fixed_place) 100 (asked (0x40000 ∷ []) ∷ asked (0x100000 ∷ []) ∷ [])
+        ≡ Clear (End.Returned 0x40000) [] ∷ NotClear Address 1 ∷ [] }
+    ensures clear_before_unclear_history { clear_calls (replay (image_of jump_words fixed_place) 100 (asked (0x40000 ∷ []) ∷ asked (0x100000 ∷ []) ∷ [])) ≡ 1 }
 {}

@@ -4,4 +4,6 @@
 
 mod laws;
 
-pub use laws::{law_worked_fetches, law_worked_keeps, law_worked_values};
+pub use laws::{
+    law_worked_fetches, law_worked_jumps, law_worked_keeps, law_worked_replays, law_worked_values,
+};

@@ -1,12 +1,11 @@
-//! Files, sinks and gates.
+//! Files and sinks in memory, and gates.
 
 use crate::{
-    DiskFiles, Failed, Fetch, Files, Gate, MemFile, MemFiles, MemSink, Name, NoGate, OutSink,
-    Point, Sequence, Sink, write_all,
+    Failed, Fetch, Files, Gate, MemFile, MemFiles, MemSink, Name, NoGate, Point, Sequence, Sink,
+    write_all,
 };
 use std::alloc::Global;
 use std::test::Fail;
-use std::{env, fs, io, process};
 
 fn file(alloc: Global, name: &str, bytes: &[u8]) -> Result<MemFile, Fail> {
     Ok(MemFile {
@@ -67,21 +66,6 @@ fn a_file_of_more_than_a_mebibyte_is_too_large(rt: HostRuntime) -> Result<(), Fa
 }
 
 #[test]
-fn files_of_the_system_are_fetched(rt: HostRuntime) -> Result<(), Fail> {
-    let name = format!(in rt.alloc(); "ad_base-test-{}", process::id(rt.process()))?;
-    let path = env::temp_dir(&rt)?.join(rt.alloc(), name.as_str())?;
-    fs::write(&rt, path.as_path(), "kept")?;
-    let mut files = DiskFiles::new(&rt);
-    let mut into = Vec::new(rt.alloc());
-    assert_eq!(rt; files.fetch(rt.alloc(), path.as_str(), &mut into), Ok(()));
-    assert_eq!(rt; into.as_slice(), b"kept".as_slice());
-    fs::remove_file(&rt, path.as_path())?;
-    let answer = files.fetch(rt.alloc(), path.as_str(), &mut into);
-    assert_eq!(rt; answer, Err(Fetch::Failed));
-    Ok(())
-}
-
-#[test]
 fn short_writes_are_gone_on_with(rt: HostRuntime) -> Result<(), Fail> {
     let text = b"a line of more than sixteen bytes\n";
     let alloc = rt.alloc();
@@ -98,30 +82,6 @@ fn short_writes_are_gone_on_with(rt: HostRuntime) -> Result<(), Fail> {
     assert_eq!(rt; write_all(&mut sink, text), Err(Failed));
     assert_eq!(rt; sink.taken(), b"a line of more than ".as_slice());
     Ok(())
-}
-
-/// A writer that takes no byte.
-#[derive(Drop)]
-struct Stuck;
-
-impl io::Write for Stuck {
-    fn write(&mut self, _buf: &[u8]) -> io::Result<usize> {
-        Ok(0)
-    }
-
-    fn flush(&mut self) -> io::Result<()> {
-        Ok(())
-    }
-}
-
-#[test]
-fn a_writer_is_a_sink(rt: HostRuntime) {
-    let mut taken: Vec<u8> = Vec::new(rt.alloc());
-    let mut sink = OutSink::new(&mut taken);
-    assert_eq!(rt; write_all(&mut sink, b"out"), Ok(()));
-    assert_eq!(rt; taken.as_slice(), b"out".as_slice());
-    let mut sink = OutSink::new(Stuck);
-    assert_eq!(rt; sink.write(b"out"), Err(Failed));
 }
 
 #[test]

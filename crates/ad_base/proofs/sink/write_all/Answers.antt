@@ -1,4 +1,4 @@
-use Rattle.std.proofs.Common.{◌<◌, length, arith, rules}
+use Rattle.std.proofs.Common.{◌<◌, ◌∙◌, length, arith, rules}
 use Rattle.std.proofs.lemmas.Grind.{common_steps}
 use Rattle.ad_base.proofs.Taken.{Taken-more, Taken-some, OnErr-always}
 use Rattle.ad_base.proofs.sink.write_all.Goals as goal
@@ -13,5 +13,5 @@ returns-in_err-taken-clause-some g c =
 pub loop-rest-preserved : goal.loop-rest-preserved
 loop-rest-preserved g c = record {
   taken = Taken-more _ _ _ _ _ _ c.in_ok-taken.taken c.loop-rest.invariant.taken c.in_ok-taken.ensures.bytes (grind (arith, common_steps));
-  counts = omega (arith, c.in_ok-taken.ensures.counts);
+  same = c.in_ok-taken.ensures.no_fault ∙ c.loop-rest.invariant.same;
 }

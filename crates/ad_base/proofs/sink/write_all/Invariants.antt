@@ -1,12 +1,12 @@
-use Rattle.std.proofs.Common.{◌≤◌, length}
+use Rattle.std.proofs.Common.{◌≡◌, length}
 use Rattle.ad_base.proofs.Taken.{Taken}
 use Rattle.ad_base.proofs.sink.write_all.Given as goal
 
--- what was taken so far, and the rest, are the bytes
+-- what was taken so far, and the rest, are the bytes; there was no fault
 abbrev pub invariant-loop-rest : goal.invariant-loop-rest
 invariant-loop-rest g l = record {
   taken : Taken (g.K.Sink.taken l.initial.out) (g.K.Sink.taken l.out) l.bytes l.rest;
-  counts : g.K.Sink.faults l.initial.out ≤ g.K.Sink.faults l.out;
+  same : g.K.Sink.faults l.out ≡ g.K.Sink.faults l.initial.out;
 }
 
 abbrev pub decreases-loop-rest : goal.decreases-loop-rest

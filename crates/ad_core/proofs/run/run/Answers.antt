@@ -1,8 +1,8 @@
 use Rattle.std.proofs.Common.{◌≡◌, ◌%◌, IfNone, ◌-◌, ◌++◌, refl, subst, arith}
-use Rattle.ad_core.specs.Segments.{touches_of_fetch}
+use Rattle.ad_core.specs.Segments.{accesses_of_fetch}
 use Rattle.ad_core.specs.Plain.{Outcome, run, at_start}
 use Rattle.ad_core.specs.Code.{state_of}
-use Rattle.ad_core.proofs.Runs.{parts, comes_at_gate, comes_spent, comes_ended, run_goes, track_on}
+use Rattle.ad_core.proofs.Runs.{parts, runs_to_gate, comes_spent, comes_ended, run_goes, track_on}
 use Rattle.ad_core.proofs.run.run.Goals as goal
 
 pub returns-then-hart-eq-GATE : goal.returns-then-hart-eq-GATE
@@ -12,7 +12,7 @@ returns-then-hart-eq-GATE g c =
     let first = c.args.bus.now in
     let whole : Outcome = run c.args.fuel (state_of c.args.hart.now) (at_start (b.segments first) (b.notes first) (b.queue first)) in
     let i = c.loop.invariant in
-    comes_at_gate (b.segments bus) (b.notes bus) (b.queue bus) i.0 (b.track bus) b.rule (b.track first)
+    runs_to_gate (b.segments bus) (b.notes bus) (b.queue bus) i.0 (b.track bus) b.rule (b.track first)
     (c.args.fuel - c.loop.counter) (state_of c.loop.hart) whole
     c.first_argument.result c.if-hart-eq-GATE.true c.first_argument.ensures i.2 i.3
 
@@ -24,7 +24,7 @@ returns-then-hart-eq-GATE-2 g c =
     let whole : Outcome = run c.args.fuel (state_of c.args.hart.now) (at_start (b.segments first) (b.notes first) (b.queue first)) in
     let i = c.loop.invariant in
     let answer = c.first_argument-then-hart-eq-GATE-2 in
-    comes_at_gate (b.segments bus) (b.notes bus) (b.queue bus) i.0 (b.track bus) b.rule (b.track first)
+    runs_to_gate (b.segments bus) (b.notes bus) (b.queue bus) i.0 (b.track bus) b.rule (b.track first)
     (c.args.fuel - c.loop.counter) (state_of c.loop.hart) whole
     answer.result c.if-hart-eq-GATE-2.true answer.ensures i.2 i.3
 
@@ -48,7 +48,7 @@ returns-in-Some g c =
     let whole : Outcome = run c.args.fuel (state_of c.args.hart.now) (at_start (b.segments first) (b.notes first) (b.queue first)) in
     let i = c.loop.invariant in
     let m = parts (b.segments before) (b.notes before) (b.queue before) i.0 in
-    let more = touches_of_fetch c.loop.hart.pc in
+    let more = accesses_of_fetch c.loop.hart.pc in
     comes_ended (b.segments bus) (b.notes bus) (b.queue bus) (i.0 ++ more) (b.track bus) b.rule (b.track first)
     (c.args.fuel - c.loop.counter) (state_of c.loop.hart) whole
     m c.in-Some.end c.args.fuel c.loop.counter (omega arith) refl
@@ -65,7 +65,7 @@ loop-preserved g c =
     let whole : Outcome = run c.args.fuel (state_of c.args.hart.now) (at_start (b.segments first) (b.notes first) (b.queue first)) in
     let i = c.loop.invariant in
     let m = parts (b.segments before) (b.notes before) (b.queue before) i.0 in
-    let more = touches_of_fetch c.loop.hart.pc in
+    let more = accesses_of_fetch c.loop.hart.pc in
     let after = parts (b.segments bus) (b.notes bus) (b.queue bus) (i.0 ++ more) in (
       i.0 ++ more,
       subst (λ r. IfNone r (c.step.new.hart.pc % 4 ≡ 0)) c.in_default.is c.step.ensures.aligned,

@@ -1,6 +1,7 @@
 use Rattle.std.proofs.Common.{◌≡◌, ◌∙◌, ◌+◌, ◌-◌, ℕ, List, false, true, length, take, drop, sym, ap, ap₂, subst, arith}
 use Rattle.ad_base.specs.ExportName.{IsExportName}
 use Rattle.ad_form.specs.declared.read.Module.{Module}
+use Rattle.ad_form.specs.declared.write.TheConstants.{SYMBOLS_BYTES}
 use Rattle.ad_form.specs.Object.{IsModule, symbols_at}
 use Rattle.ad_form.proofs.File.{IsModule-tells, name_at}
 use Rattle.ad_form.proofs.read.stated_name.Goals as goal
@@ -8,10 +9,10 @@ use Rattle.ad_form.proofs.read.stated_name.Goals.{then-size-lt2-via-then-size-lt
 
 -- the bytes that are read for the name, from the end of the symbols at `s` on, are the name
 name_is : (bytes : List ℕ) (m : Module) (s size : ℕ) → IsModule bytes m → s ≡ symbols_at (length m.text) → size ≡ length m.name + 2
-    → take (s + 48 + 1 + size - 2 - (s + 48 + 1)) (drop (s + 48 + 1) bytes) ≡ m.name
+    → take (s + SYMBOLS_BYTES + 1 + size - 2 - (s + SYMBOLS_BYTES + 1)) (drop (s + SYMBOLS_BYTES + 1) bytes) ≡ m.name
 name_is bytes m s size h symbols strings =
-    let long : s + 48 + 1 + size - 2 - (s + 48 + 1) ≡ length m.name = omega arith in
-    let start : s + 48 + 1 ≡ name_at (length m.text) = omega arith in
+    let long : s + SYMBOLS_BYTES + 1 + size - 2 - (s + SYMBOLS_BYTES + 1) ≡ length m.name = omega arith in
+    let start : s + SYMBOLS_BYTES + 1 ≡ name_at (length m.text) = omega arith in
     ap₂ (λ (n k : ℕ). take n (drop k bytes)) long start ∙ (IsModule-tells bytes m h).name_there
 
 pub returns-then-size-lt2-clause-stated : goal.returns-then-size-lt2-clause-stated

@@ -1,6 +1,6 @@
 use Rattle.std.proofs.Common.{sym, ap, ◌∙◌, ◌++◌, ◌∷◌, [], List, ℕ, ◌≡◌, arith}
 use Rattle.ad_base.specs.Image.{zeros}
-use Rattle.ad_form.proofs.Zeros.{append-zeros_none, append-zeros_more}
+use Rattle.ad_base.proofs.Zeros.{append-zeros_none, append-zeros_more}
 use Rattle.ad_form.proofs.write.put_zeros.Goals as goal
 
 pub loop-init : goal.loop-init

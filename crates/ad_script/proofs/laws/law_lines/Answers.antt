@@ -8,4 +8,4 @@ pub returns : goal.returns
 returns c = λ bytes s is i step at.
     let within : i < length s.steps = slice_get_within s.steps i step at in
     let few : 1 + length s.steps ≤ SCRIPT_LINES = is.lines in
-    (step_number s.name 2 is.text.0 s.steps i step is.text.1 at, omega arith)
+    (step_number is.load.name 2 is.text.0 s.steps i step is.text.1 at, omega arith)

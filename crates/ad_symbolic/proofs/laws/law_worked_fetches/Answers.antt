@@ -1,5 +1,5 @@
 use Rattle.std.proofs.Common.{refl}
-use Rattle.ad_symbolic.specs.Access.{fetched_value}
+use Rattle.ad_symbolic.specs.AddressSpace.{fetched_value}
 use Rattle.ad_symbolic.proofs.laws.law_worked_fetches.Goals as goal
 
 pub returns : goal.returns

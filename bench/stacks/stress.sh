@@ -1,0 +1,18 @@
+#!/bin/sh
+# Runs the thread test of ad_stacks with so many takes of each worker, on a copy of the repository.
+set -eu
+rounds=${1:?usage: stress.sh ROUNDS}
+top=$(cd "$(dirname "$0")/../.." && pwd)
+copy=$(mktemp -d)
+trap 'rm -rf "$copy"' EXIT
+mkdir "$copy/crates"
+cp "$top/crates.txt" "$top/HANDLES" "$copy/"
+for crate in "$top"/crates/*; do
+    mkdir "$copy/crates/$(basename "$crate")"
+    for part in src specs proofs; do
+        [ -d "$crate/$part" ] && cp -r "$crate/$part" "$copy/crates/$(basename "$crate")/"
+    done
+done
+sed -i "s/^const ROUNDS: u64 = .*;/const ROUNDS: u64 = $rounds;/" "$copy/crates/ad_stacks/src/tests.rt"
+cd "$copy/crates/ad_stacks"
+time rt try --test

@@ -1,0 +1,75 @@
+-- What a call makes of a book, from what its parts say.
+use Rattle.std.proofs.Common.{◌≡◌, ℕ, ◌+◌, ◌*◌, ◌%◌, ◌^◌, List, [], ◌∷◌, ◌++◌, length, Some, slice_get, ap, ◌∙◌}
+use Rattle.std.specs.Option.{option_map_or}
+use Rattle.ad_base.specs.declared.book.Entry.{Entry}
+use Rattle.ad_base.specs.declared.end.End.{End}
+use Rattle.ad_base.specs.declared.image.Image.{Image}
+use Rattle.ad_base.specs.declared.image.Export.{Export}
+use Rattle.ad_base.specs.declared.layout.TheConstants.{PAGE_BYTES, STACK_PAGES}
+use Rattle.ad_base.specs.declared.place.Place.{Place}
+use Rattle.ad_base.specs.Book.{Contents}
+use Rattle.ad_base.specs.Place.{base_of}
+use Rattle.ad_core.specs.Segments.{bytes_of_role, is_data, is_fixed_data, sizes}
+use Rattle.ad_core.specs.Plain.{Outcome, plain_call, at_start}
+use Rattle.ad_core.specs.Image.{segments_of, fresh_stack}
+use Rattle.ad_core.specs.Turn.{export_offset}
+use Rattle.ad_call.specs.declared.call.Call.{Call}
+use Rattle.ad_call.specs.Call.{HasData, after_call, entry_of, outcome_of}
+
+-- the offset of an export that is there
+pub offset_there : (image : Image) (number : ℕ) (export : Export) → slice_get image.exports number ≡ Some export → export_offset image number ≡ export.offset
+offset_there image number export e = ap (λ o. option_map_or (λ (x : Export). x.offset) o 0) e
+
+-- what the code gives to the machine for a call
+pub record IsGiven (image : Image) (book : Contents) (c : Call) (entry sp : ℕ) (notes writable fixed device : List ℕ) : Type 0 where
+  pub entry_is : entry ≡ (base_of c.under + export_offset image c.export) % 2 ^ 64
+  pub sp_is : sp ≡ base_of c.stack + STACK_PAGES * PAGE_BYTES
+  pub no_note : notes ≡ []
+  pub writable_is : writable ≡ book.writable
+  pub fixed_is : fixed ≡ book.fixed
+  pub device_is : device ≡ book.device
+
+-- what the code hands to the machine
+abbrev pub ran_on : Image → ℕ → Call → List ℕ → ℕ → ℕ → List ℕ → List ℕ → List ℕ → List ℕ → Outcome
+ran_on image fuel c args entry sp notes writable fixed device = plain_call fuel entry args sp (at_start (segments_of image c.under c.stack fresh_stack fixed writable) notes device)
+
+module _ (image : Image) (fuel : ℕ) (book : Contents) (c : Call) (args : List ℕ) (entry sp : ℕ) (notes writable fixed device : List ℕ) (given : IsGiven image book c entry sp notes writable fixed device) where
+  -- the machine's run is that of the call
+  same_run : ran_on image fuel c args entry sp notes writable fixed device ≡ outcome_of image fuel book c args
+  unfolding outcome_of
+  same_run = λ j. plain_call fuel (given.entry_is j) args (given.sp_is j) (at_start (segments_of image c.under c.stack fresh_stack (given.fixed_is j) (given.writable_is j)) (given.no_note j) (given.device_is j))
+
+  module _ (seen : Image) (under stack : Place) (end : End) (made written kept left copy : List ℕ) (entries : List Entry) where
+    -- what the run left, and the entry that was appended
+    pub record Left : Type 0 where
+      pub end_is : end ≡ (ran_on image fuel c args entry sp notes writable fixed device).end
+      pub segments : segments_of seen under stack fresh_stack kept written ≡ (ran_on image fuel c args entry sp notes writable fixed device).memory.segments
+      pub notes_are : made ≡ (ran_on image fuel c args entry sp notes writable fixed device).memory.notes
+      pub queue : left ≡ (ran_on image fuel c args entry sp notes writable fixed device).memory.queue
+      pub copied : copy ≡ args
+      pub appended : entries ≡ book.entries ++ record { line = c.line; worker = c.worker; export = c.export; args = copy; under = c.under; stack = c.stack; notes = made; end = end } ∷ []
+
+    -- this is the book after the call
+    pub call_made : Left → record { writable = written; fixed = kept; device = left; entries = entries } ≡ after_call image fuel book c args
+    unfolding after_call
+    call_made l =
+        let o = outcome_of image fuel book c args in
+        let same = same_run in
+        let ended = l.end_is ∙ ap (λ (r : Outcome). r.end) same in
+        let noted = l.notes_are ∙ ap (λ (r : Outcome). r.memory.notes) same in
+        let segments = l.segments ∙ ap (λ (r : Outcome). r.memory.segments) same in
+        let queued = l.queue ∙ ap (λ (r : Outcome). r.memory.queue) same in
+        let copied = l.copied in
+        let made_entry : Entry = record { line = c.line; worker = c.worker; export = c.export; args = copy; under = c.under; stack = c.stack; notes = made; end = end } in
+        let is : made_entry ≡ entry_of c args o = λ j. record { line = c.line; worker = c.worker; export = c.export; args = copied j; under = c.under; stack = c.stack; notes = noted j; end = ended j } in
+        let all = l.appended ∙ ap (λ (x : Entry). book.entries ++ x ∷ []) is in
+        λ j. record { writable = ap (bytes_of_role is_data) segments j; fixed = ap (bytes_of_role is_fixed_data) segments j; device = queued j; entries = all j }
+
+-- segments of equal sizes have data of equal lengths
+pub has_data : (i seen image : Image) (under stack under' stack' : Place) (fixed writable kept written : List ℕ)
+    → sizes (segments_of seen under' stack' fresh_stack kept written) ≡ sizes (segments_of image under stack fresh_stack fixed writable)
+    → HasData i writable fixed → HasData i written kept
+has_data i seen image under stack under' stack' fixed writable kept written same h =
+    let w : length written ≡ length writable = cc in
+    let k : length kept ≡ length fixed = cc in
+    record { movable = w ∙ h.movable; immovable = k ∙ h.immovable }

@@ -1,0 +1,47 @@
+-- Where the first module of a script has another form, the chain of its loads ends there.
+use Rattle.std.proofs.Common.{◌≡◌, ℕ, ◌≤◌, List, [], ◌∷◌, length, Option, None, Result, Err, ap, subst, ◌∙◌}
+use Rattle.std.specs.Prelude.{nat_lt, if◌then◌else◌}
+use Rattle.std.proofs.lemmas.Bool.{le-ltb}
+use Rattle.ad_base.specs.declared.image.Image.{Image}
+use Rattle.ad_base.specs.declared.layout.TheConstants.{FILE_BYTES}
+use Rattle.ad_base.specs.declared.ledger.Kind.TheVariants.{Fixed}
+use Rattle.ad_form.specs.declared.image.TheConstants.{FIXED_PAGES}
+use Rattle.ad_form.specs.declared.read.Module.{Module}
+use Rattle.ad_form.specs.FormImage.{form_image}
+use Rattle.ad_lines.specs.Opening.{opening_drawn}
+use Rattle.ad_place.specs.Choice.{next_place}
+use Rattle.ad_script.specs.declared.script.Load.{Load}
+use Rattle.ad_script.specs.declared.script.Script.{Script}
+use Rattle.ad_command.specs.declared.trouble.Trouble.{Trouble}
+use Rattle.ad_command.specs.declared.trouble.Trouble.TheVariants.{Form, TooLarge}
+use Rattle.ad_command.specs.Chain.{Chain, Done, Gives, Means, ModuleFile, Parse, Refuse, ◌>>=◌, each_behind, given}
+use Rattle.ad_command.specs.Loading.{file_of, image_of, images_of}
+use Rattle.ad_command.proofs.Chains.{one_meaning}
+
+module _ {A B : Type 0} (files : List ℕ → List ℕ) (name : List ℕ) (made : Module → Chain A) (next : A → Chain B) where
+  -- what is done with the bytes of a file
+  abbrev parsed : List ℕ → Chain A
+  parsed file = Parse ModuleFile file (λ m. given (Form name) m >>= made)
+
+  -- bytes that aren't too many and are no module: that is the end
+  pub ends-formless : (n : ℕ) (file : List ℕ) (names : List (List ℕ)) (due : Result B Trouble) → length file ≤ n → Means ModuleFile file None
+      → Gives files (((if nat_lt n (length file) then Refuse (TooLarge name) else Done file) >>= parsed) >>= next) names due
+      → (names ≡ []) × (due ≡ Err (Form name))
+  ends-formless n file names due short formless gives =
+      let goes : Gives files (parsed file >>= next) names due =
+      subst (λ b. Gives files (((if b then Refuse (TooLarge name) else Done file) >>= parsed) >>= next) names due) (le-ltb n (length file) short) gives in
+      let none : goes.0 ≡ None = one_meaning ModuleFile file goes.0 None goes.1 formless in
+      subst (λ (m : Option Module). Gives files ((given (Form name) m >>= made) >>= next) names due) none goes.2
+
+-- the chain of a script's loads asks for the first file, and ends there
+pub first-refusal : (files : List ℕ → List ℕ) (seed : ℕ) (s : Script) (first : Load) (more : List Load) (names : List (List ℕ)) (due : Result (List Image) Trouble)
+    → s.loads ≡ first ∷ more → length (files first.file) ≤ FILE_BYTES → Means ModuleFile (files first.file) None
+    → Gives files (images_of seed s) names due → (due ≡ Err (Form first.file)) × (names ≡ first.file ∷ [])
+unfolding images_of each_behind image_of file_of
+first-refusal files seed s first more names due loads short formless gives =
+    let made : Module → Chain Image = λ m. Done (form_image m (next_place (opening_drawn seed s.workers []) Fixed FIXED_PAGES)) in
+    let next : Image → Chain (List Image) = λ i. each_behind (image_of seed s.workers) (i ∷ []) more in
+    let goes : Gives files (each_behind (image_of seed s.workers) [] (first ∷ more)) names due =
+    subst (λ ls. Gives files (each_behind (image_of seed s.workers) [] ls) names due) loads gives in
+    let end = ends-formless files first.file made next FILE_BYTES (files first.file) goes.0 due short formless goes.2 in
+    (end.1, goes.1 ∙ ap (λ ns. first.file ∷ ns) end.0)

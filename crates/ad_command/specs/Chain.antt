@@ -1,0 +1,95 @@
+-- What a command does before it runs, as a chain of steps, and how such a chain may end.
+use Rattle.std.specs.Prelude.{◌≡◌, ◌⊎◌, ℕ, List, [], ◌∷◌, ◌++◌, Option, None, Some, IfSome, Result, Ok, Err}
+use Rattle.ad_base.specs.Outside.{Outside, Rose, Tells, Told}
+use Rattle.ad_form.specs.declared.read.Module.{Module}
+use Rattle.ad_form.specs.Object.{IsModule}
+use Rattle.ad_script.specs.declared.script.Script.{Script}
+use Rattle.ad_script.specs.Script.{IsScript}
+use Rattle.ad_command.specs.declared.trouble.Trouble.{Trouble}
+use Rattle.ad_command.specs.declared.trouble.Trouble.TheVariants.{Read, Memory}
+
+-- the grammars of files
+pub data Grammar : Type 0 where
+  ScriptText : Grammar
+  ModuleFile : Grammar
+
+-- what a file of a grammar says, or none where its bytes have another form
+abbrev pub Meaning : Grammar → Type 0
+Meaning ScriptText = Option Script
+Meaning ModuleFile = Option Module
+
+-- the bytes mean this
+abbrev pub Means : (g : Grammar) → List ℕ → Meaning g → Type 0
+Means ScriptText bytes (Some s) = IsScript bytes s
+Means ScriptText bytes None = (s : Script) → IsScript bytes s → ⊥
+Means ModuleFile bytes (Some m) = IsModule bytes m
+Means ModuleFile bytes None = (m : Module) → IsModule bytes m → ⊥
+
+-- A chain of steps: it is done, or refuses, or asks for the file of a name and goes on with its bytes, or goes on with
+-- what bytes mean by a grammar.
+pub data Chain (A : Type 0) : Type 0 where
+  Done : A → Chain A
+  Refuse : Trouble → Chain A
+  Ask : List ℕ → (List ℕ → Chain A) → Chain A
+  Parse : (g : Grammar) → List ℕ → (Meaning g → Chain A) → Chain A
+
+-- one chain behind the other: the first refusal counts
+infixl 10 ◌>>=◌
+abbrev pub ◌>>=◌ : {A B : Type 0} → Chain A → (A → Chain B) → Chain B
+(Done a) >>= f = f a
+(Refuse t) >>= f = Refuse t
+(Ask name next) >>= f = Ask name (λ file. next file >>= f)
+(Parse g bytes next) >>= f = Parse g bytes (λ m. next m >>= f)
+
+-- a step for each of a list, in order, behind those that are done, of which it may make use
+unfoldable pub each_behind : {A B : Type 0} → (List B → A → Chain B) → List B → List A → Chain (List B)
+each_behind f done [] = Done done
+each_behind f done (x ∷ xs) = f done x >>= λ y. each_behind f (done ++ y ∷ []) xs
+
+-- what there is, or else a refusal
+abbrev pub given : {A : Type 0} → Trouble → Option A → Chain A
+given t None = Refuse t
+given t (Some a) = Done a
+
+-- a result, or else the refusal that its error stands for
+abbrev pub judged : {A E : Type 0} → (E → Trouble) → Result A E → Chain A
+judged trouble (Ok a) = Done a
+judged trouble (Err e) = Refuse (trouble e)
+
+-- Serving a chain, where the count of faults was `old` and then is `new`, may ask for these names and come to this end.
+-- Each file has bytes that what is told of it allows. Instead of any step there may be no memory. A file may fail to
+-- be read: then its name was asked for last, and the count rose; else it stays.
+abbrev pub Comes : {A : Type 0} → Told → ℕ → ℕ → Chain A → List (List ℕ) → Result A Trouble → Type 0
+Comes told old new (Done a) names r = (names ≡ []) × (new ≡ old) × ((r ≡ Ok a) ⊎ (r ≡ Err Memory))
+Comes told old new (Refuse t) names r = (names ≡ []) × (new ≡ old) × ((r ≡ Err t) ⊎ (r ≡ Err Memory))
+Comes told old new (Ask name next) names r =
+    ((names ≡ []) × (new ≡ old) × (r ≡ Err Memory))
+    ⊎ ((names ≡ name ∷ []) × Rose old new × (r ≡ Err (Read name)))
+    ⊎ ((file : List ℕ) × (more : List (List ℕ)) × (names ≡ name ∷ more) × Tells (told name) file × Comes told old new (next file) more r)
+Comes told old new (Parse g bytes next) names r =
+    ((names ≡ []) × (new ≡ old) × (r ≡ Err Memory))
+    ⊎ ((m : Meaning g) × Means g bytes m × Comes told old new (next m) names r)
+
+-- from one state of the files to another, the chain comes to this end
+pub record Serves {A : Type 0} (old new : Outside) (c : Chain A) (r : Result A Trouble) : Type 0 where
+  pub names : List (List ℕ)
+  pub comes : Comes old.told old.faults new.faults c names r
+  pub asked : IfSome old.asked (λ before. new.asked ≡ Some (before ++ names))
+  pub same : new.told ≡ old.told
+
+-- what the chain gives over files of these bytes, and the names that it asks for
+abbrev pub Gives : {A : Type 0} → (List ℕ → List ℕ) → Chain A → List (List ℕ) → Result A Trouble → Type 0
+Gives files (Done a) names r = (names ≡ []) × (r ≡ Ok a)
+Gives files (Refuse t) names r = (names ≡ []) × (r ≡ Err t)
+Gives files (Ask name next) names r = (more : List (List ℕ)) × (names ≡ name ∷ more) × Gives files (next (files name)) more r
+Gives files (Parse g bytes next) names r = (m : Meaning g) × Means g bytes m × Gives files (next m) names r
+
+-- the bytes of all these names are told
+abbrev pub AreTold : Told → (List ℕ → List ℕ) → List (List ℕ) → Type 0
+AreTold told files [] = Unit {0}
+AreTold told files (name ∷ names) = (told name ≡ Some (files name)) × AreTold told files names
+
+-- what came of a call, its value seen so
+abbrev pub seen : {A B : Type 0} → (A → B) → Result A Trouble → Result B Trouble
+seen view (Ok a) = Ok (view a)
+seen view (Err t) = Err t

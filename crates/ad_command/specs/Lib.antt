@@ -1,0 +1,6 @@
+pub mod Words
+pub mod Trouble
+pub mod Chain
+pub mod Loading
+pub mod Command
+pub mod Ending

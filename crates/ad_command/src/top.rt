@@ -1,0 +1,216 @@
+//! The command, from its words to what is written.
+
+ghost use Rattle.std.specs.Prelude.{◌≡◌, ◌⊎◌, ℕ, List, [], length, map, string_bytes, Some, Result, Ok, Err, IfOk, IfErr, MatchResult};
+ghost use Rattle.ad_base.specs.Outside.{Rose};
+ghost use Rattle.ad_base.specs.Book.{contents_of};
+ghost use Rattle.ad_command.specs.Chain.{AreTold, Gives, Serves};
+ghost use Rattle.ad_command.specs.Command.{Job, command, seq};
+ghost use Rattle.ad_command.specs.Ending.{Answers, AsksFirstOf, IsReport, Leaves, Writes, fault_of};
+ghost use Rattle.ad_command.specs.declared.words.Task.TheVariants.{Seq};
+ghost use Rattle.ad_lines.specs.declared.ready.ReadyStep.{ReadyStep};
+ghost use Rattle.ad_lines.specs.LineLaws.{run_of_seed};
+ghost use Rattle.ad_lines.specs.Opening.{opening_drawn, AreLoaded};
+ghost use Rattle.ad_lines.specs.Ready.{ready_steps};
+ghost use Rattle.ad_script.specs.Script.{IsInRange};
+ghost use Rattle.ad_command.specs.Trouble.{status_of};
+
+use crate::load::{Loaded, load, script_of};
+use crate::trouble::{Trouble, exit_status};
+use crate::words::{Task, read_words};
+use ad_base::{Book, Failed, Files, Image, Moved, OutOfMemory, Row, Sink, write_all};
+use ad_lines::{Finished, LineRun, Missing, ReadyStep, ready_steps};
+use ad_report::report;
+use ad_script::Script;
+use std::alloc::Global;
+
+/// What came of a command.
+#[derive(Debug, Drop)]
+pub struct Ended {
+    /// The status that the process ends with.
+    pub status: u8,
+    /// Why the command did not do what was asked; `None` exactly at status 0.
+    pub fault: Option<Trouble>,
+    /// The books of the modules. Books, moves and ledger are empty but at the statuses 0 and 5.
+    pub books: Vec<Book>,
+    /// What came of the moves, in the order of the script.
+    pub moves: Vec<Moved>,
+    /// All mappings, in order of number.
+    pub ledger: Vec<Row>,
+}
+
+/// Serves the command words. It always returns, and waits for nobody but the files that it reads and the sink that it
+/// writes to. The allocator is that of `rt`.
+///
+/// The statuses are those of the faults: 1 where the words aren't of the grammar, 2 where the script has another form,
+/// 3 where a module has, or where a line calls an export that its module hasn't, 4 where a file couldn't be read or has
+/// more than 1,048,576 bytes, 5 where the report couldn't be written, 6 where memory was wanting.
+pub fn top_still<R: AllocGlobal, F: Files, K: Sink>(
+    rt: &R,
+    words: &[String],
+    files: &mut F,
+    out: &mut K,
+) -> Ended
+    ensures status { result.status ≡ status_of result.fault }
+
+    // The chain of the command comes to some end, which says what is left.
+    ensures serves { (end : Result Job Trouble)
+        × Serves (F.outside files.old) (F.outside files.new) (command (map string_bytes words.now)) end
+        × Leaves result.books.items result.moves.items result.ledger.items
+        (Rose (K.faults out.old) (K.faults out.new)) (K.faults out.new ≡ K.faults out.old) (out.new ≡ out.old)
+        (K.taken out.old) (K.taken out.new) result.fault end }
+
+    // Where the files that it asks for are told, the fault is that of the chain over their bytes, but for want of memory,
+    // for a failed read of one of them, and for a failed write of the report; and the names asked for are the chain's, or the first of them.
+    ensures told { (bytes : List ℕ → List ℕ) (names : List (List ℕ)) (due : Result Job Trouble)
+        → Gives bytes (command (map string_bytes words.now)) names due → AreTold (F.outside files.old).told bytes names
+        → Answers result.fault (fault_of due) names }
+    ensures asks { (bytes : List ℕ → List ℕ) (names : List (List ℕ)) (due : Result Job Trouble)
+        → Gives bytes (command (map string_bytes words.now)) names due → AreTold (F.outside files.old).told bytes names
+        → AsksFirstOf (F.outside files.old).asked (F.outside files.new).asked names }
+{
+    match prepare(rt.alloc(), words, files) {
+        Ok(prepared) => written(prepared, out),
+        Err(trouble) => refused(rt.alloc(), trouble),
+    }
+}
+
+/// What was done, and the text that is written of it.
+#[derive(Drop)]
+struct Prepared {
+    books: Vec<Book>,
+    moves: Vec<Moved>,
+    ledger: Vec<Row>,
+    text: Vec<u8>,
+}
+
+/// What came of a command that did nothing.
+fn refused(alloc: Global, trouble: Trouble) -> Ended
+    ensures status { result.status ≡ status_of result.fault }
+    ensures fault { result.fault ≡ Some trouble }
+    ensures books { result.books.items ≡ [] }
+    ensures moves { result.moves.items ≡ [] }
+    ensures ledger { result.ledger.items ≡ [] }
+{
+    Ended {
+        status: trouble.status(),
+        fault: Some(trouble),
+        books: Vec::new(alloc),
+        moves: Vec::new(alloc),
+        ledger: Vec::new(alloc),
+    }
+}
+
+/// Writes the report of what was done.
+fn written<K: Sink>(prepared: Prepared, out: &mut K) -> Ended
+    ensures status { result.status ≡ status_of result.fault }
+    ensures books { result.books.items ≡ prepared.books.items }
+    ensures moves { result.moves.items ≡ prepared.moves.items }
+    ensures ledger { result.ledger.items ≡ prepared.ledger.items }
+    ensures writes { Writes (Rose (K.faults out.old) (K.faults out.new)) (K.faults out.new ≡ K.faults out.old)
+        (K.taken out.old) (K.taken out.new) result.fault prepared.text.items }
+{
+    let fault = match write_all(out, &prepared.text) {
+        Ok(()) => None,
+        Err(Failed) => Some(Trouble::Write),
+    };
+    Ended {
+        status: exit_status(&fault),
+        fault,
+        books: prepared.books,
+        moves: prepared.moves,
+        ledger: prepared.ledger,
+    }
+}
+
+/// Serves the chain of the command, does its job, and makes the report.
+fn prepare<F: Files>(alloc: Global, words: &[String], files: &mut F) -> Result<Prepared, Trouble>
+    ensures { (end : Result Job Trouble) × Serves (F.outside files.old) (F.outside files.new) (command (map string_bytes words.now)) end
+        × MatchResult result (λ p. (job : Job) × (end ≡ Ok job) × IsReport job p.books.items p.moves.items p.ledger.items p.text.items) (λ t. end ≡ Err t) }
+{
+    let Some(command) = read_words(words) else {
+        return Err(Trouble::Usage);
+    };
+    match command.task {
+        Task::Seq => seq(alloc, files, command.operand, command.seed, command.fuel),
+    }
+}
+
+/// Serves the chain of a script that is run line by line, runs it, and makes the report.
+fn seq<F: Files>(
+    alloc: Global,
+    files: &mut F,
+    operand: &str,
+    seed: u64,
+    fuel: u64,
+) -> Result<Prepared, Trouble>
+    ensures { (end : Result Job Trouble) × Serves (F.outside files.old) (F.outside files.new)
+        (seq (record { task = Seq; operand = operand.now; seed = seed; fuel = fuel })) end
+        × MatchResult result (λ p. (job : Job) × (end ≡ Ok job) × IsReport job p.books.items p.moves.items p.ledger.items p.text.items) (λ t. end ≡ Err t) }
+{
+    let script = script_of(alloc, files, operand)?;
+    let loaded = load(alloc, files, &script, seed)?;
+    run(alloc, &script, loaded, fuel)
+}
+
+/// Runs the lines of a script, if each call finds its export, and makes the report.
+fn run(alloc: Global, script: &Script, loaded: Loaded, fuel: u64) -> Result<Prepared, Trouble>
+    requires range { IsInRange script.now }
+    requires drawn { loaded.placer ≡ opening_drawn loaded.placer.seed script.now.workers loaded.images.items }
+    requires loaded { AreLoaded loaded.placer.seed script.now.workers loaded.images.items }
+    requires each { length script.now.loads ≡ length loaded.images.items }
+    ensures done { IfOk result (λ p. (steps : List ReadyStep) × (ready_steps loaded.images.items script.now.steps ≡ Ok steps)
+        × IsReport (record { seed = loaded.placer.seed; fuel = fuel; script = script.now; images = loaded.images.items; steps = steps })
+        p.books.items p.moves.items p.ledger.items p.text.items) }
+    ensures fault { IfErr result (λ t. ((line : ℕ) × (ready_steps loaded.images.items script.now.steps ≡ Err line) × (t ≡ Trouble.NoExport line)) ⊎ (t ≡ Trouble.Memory)) }
+{
+    let steps = ready(alloc, &loaded.images, script)?;
+    let finished = run_lines(alloc, script, loaded, &steps, fuel)?;
+    let text = report(
+        alloc,
+        script,
+        &finished.books,
+        &finished.moves,
+        &finished.mappings,
+    )?;
+    Ok(Prepared {
+        books: finished.books,
+        moves: finished.moves,
+        ledger: finished.mappings,
+        text,
+    })
+}
+
+/// The steps of a script, each ready to run on these modules.
+fn ready(alloc: Global, images: &[Image], script: &Script) -> Result<Vec<ReadyStep>, Trouble>
+    ensures ready { IfOk result (λ steps. ready_steps images.now script.now.steps ≡ Ok steps.items) }
+    ensures fault { IfErr result (λ t. ((line : ℕ) × (ready_steps images.now script.now.steps ≡ Err line) × (t ≡ Trouble.NoExport line)) ⊎ (t ≡ Trouble.Memory)) }
+{
+    match ready_steps(alloc, images, script.steps.as_slice()) {
+        Ok(steps) => Ok(steps),
+        Err(Missing::Export { line }) => Err(Trouble::NoExport { line }),
+        Err(Missing::OutOfMemory) => Err(Trouble::Memory),
+    }
+}
+
+/// Runs steps on the modules of a script.
+fn run_lines(
+    alloc: Global,
+    script: &Script,
+    loaded: Loaded,
+    steps: &[ReadyStep],
+    fuel: u64,
+) -> Result<Finished, OutOfMemory>
+    requires range { IsInRange script.now }
+    requires drawn { loaded.placer ≡ opening_drawn loaded.placer.seed script.now.workers loaded.images.items }
+    requires loaded { AreLoaded loaded.placer.seed script.now.workers loaded.images.items }
+    requires each { length script.now.loads ≡ length loaded.images.items }
+    requires ready { ready_steps loaded.images.items script.now.steps ≡ Ok steps.now }
+    ensures books { IfOk result (λ end. map contents_of end.books.items ≡ map (λ m. m.book) (run_of_seed loaded.placer.seed script.now.workers loaded.images.items fuel steps.now).modules) }
+    ensures moves { IfOk result (λ end. end.moves.items ≡ (run_of_seed loaded.placer.seed script.now.workers loaded.images.items fuel steps.now).placement.moves) }
+    ensures mappings { IfOk result (λ end. end.mappings.items ≡ (run_of_seed loaded.placer.seed script.now.workers loaded.images.items fuel steps.now).placement.mappings) }
+{
+    let Loaded { images, placer } = loaded;
+    let mut run = LineRun::open(alloc, images, script.workers, placer, steps, fuel)?;
+    run.run(steps);
+    run.finish(alloc)
+}

@@ -1,6 +1,0 @@
-use Rattle.ad_events.specs.OwedLaws.{CountsAreOwed}
-use Rattle.ad_events.proofs.OwedLaws.{after_every_run}
-use Rattle.ad_events.proofs.owed.counts_are_owed.Goals as goal
-
-pub returns : goal.returns
-returns c = record { counted = after_every_run CountsAreOwed (λ w h. h.counted) }

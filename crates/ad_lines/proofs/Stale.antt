@@ -1,0 +1,184 @@
+-- Addresses whose mapping was unmapped: no later mapping has them, and no call finds anything there.
+use Rattle.std.proofs.Common.{◌≡◌, ◌⊎◌, ℕ, ◌+◌, ◌*◌, ◌/◌, ◌<◌, ◌≤◌, false, ◌==◌, List, [], ◌∷◌, ◌++◌, length, map, take, drop, slice_get, Some, None, inl, inr, refl, sym, ap, subst, ◌∙◌, append-nil, arith, length-drop, length-take}
+use Rattle.std.specs.Prelude.{if◌then◌else◌}
+use Rattle.std.specs.List.{All}
+use Rattle.std.proofs.lemmas.Bool.{cases_lt, cond_both}
+use Rattle.std.proofs.lemmas.Bool.Decides.{eqb_tells, nat_tests}
+use Rattle.std.proofs.lemmas.List.{length-map}
+use Rattle.std.proofs.lemmas.List.Sums.{fold-append}
+use Rattle.std.proofs.lemmas.Option.{get_or_from_slice_get, slice_get_within}
+use Rattle.ad_base.specs.declared.image.Image.{Image}
+use Rattle.ad_base.specs.declared.layout.TheConstants.{GATE, PAGE_BYTES, REGION_BYTES, STACK_PAGES}
+use Rattle.ad_base.specs.declared.ledger.Kind.{Kind}
+use Rattle.ad_base.specs.declared.ledger.Kind.TheVariants as kinds
+use Rattle.ad_base.specs.declared.ledger.Row.{Row}
+use Rattle.ad_base.specs.declared.place.Place.{Place}
+use Rattle.ad_base.specs.Ledger.{Mapping}
+use Rattle.ad_base.specs.Place.{IsInside, IsPlace, base_of}
+use Rattle.ad_call.specs.Call.{HasData}
+use Rattle.ad_call.proofs.Found.{holding-outside, total}
+use Rattle.ad_core.specs.declared.bus.Fetched.TheVariants.{Fault, Gate}
+use Rattle.ad_core.specs.Image.{data_rights, fixed_pieces, laid_out, local_word, movable_pieces, segments_of, text_bytes}
+use Rattle.ad_core.specs.Segments.{Segment, Stack, fetched, holding, in_region_1, word_in}
+use Rattle.ad_core.proofs.Pages.{length-page_of_words}
+use Rattle.ad_lines.specs.declared.ready.ReadyStep.{ReadyStep}
+use Rattle.ad_lines.specs.LineRun.{ModuleState, Placement, after_step, line_run}
+use Rattle.ad_lines.specs.Opening.{AreLoaded, opening_drawn, opening_mappings, opening_run}
+use Rattle.ad_lines.specs.LineLaws.{AreSteps, InEachMemory, line_of, run_of_seed}
+use Rattle.ad_lines.proofs.ListReads.{Each, all-back, all-each, all-front, each-all}
+use Rattle.ad_lines.proofs.MoveRuns.{IsCurrent, IsSoundPlacement, grows-refl, place-at}
+use Rattle.ad_lines.proofs.OpenRuns.{run-opens}
+use Rattle.ad_lines.proofs.SoundRuns.{IsGrown, IsPlacedModule, IsPlacedStack, IsSoundRun, grown-run}
+
+-- the mappings before the first line
+abbrev opening_of : ℕ → ℕ → List Image → List Mapping
+opening_of seed workers images = opening_mappings workers (opening_drawn seed workers images).places
+
+-- an address of a place is in its region
+region-of : (p : Place) (at : ℕ) → IsPlace p → IsInside p at → p.region ≡ at / REGION_BYTES
+region-of p at is inside = omega (arith, is.page_before, is.page_behind, is.some_page, inside.from, inside.to)
+
+-- two places that were drawn differ in their regions
+differ : (opening : List Mapping) (p : Placement) → IsSoundPlacement opening p → (i j : ℕ) (a b : Place) → i < j → slice_get p.drawn.places i ≡ Some a → slice_get p.drawn.places j ≡ Some b → a.region ≡ b.region → ⊥
+differ opening p s i j a b less e f same =
+    s.apart i j a less (slice_get_within p.drawn.places j b f)
+    (ap (λ (x : Place). x.region) (get_or_from_slice_get p.drawn.places i a a e) ∙ same ∙ sym (ap (λ (x : Place). x.region) (get_or_from_slice_get p.drawn.places j b a f)))
+
+-- an address whose mapping was unmapped is in no mapping
+apart-now : (opening : List Mapping) (p : Placement) → IsSoundPlacement opening p → (old : ℕ) (gone : Row) (at : ℕ) → slice_get p.mappings old ≡ Some gone → 0 < gone.unmaps → IsInside gone.place at
+    → Each (λ (r : Row). r.unmaps ≡ 0 → IsInside r.place at → ⊥) p.mappings
+apart-now opening p s old gone at there unmapped inside k r e none within =
+    let a = place-at opening p s k r e in
+    let b = place-at opening p s old gone there in
+    let same : r.place.region ≡ gone.place.region = region-of r.place at (s.are k r.place a) within ∙ sym (region-of gone.place at (s.are old gone.place b) inside) in
+    elim (cases_lt k old) [
+      | inl less ↦ differ opening p s k old r.place gone.place less a b same
+      | inr from ↦ elim (cases_lt old k) [
+        | inl more ↦ differ opening p s old k gone.place r.place more b a (sym same)
+        | inr to ↦
+            let at_old : k ≡ old = omega (arith, from, to) in
+            let one : Some r ≡ Some gone = sym e ∙ ap (slice_get p.mappings) at_old ∙ there in
+            let is : r ≡ gone = cc in
+            absurd (omega (arith, unmapped, none, ap (λ (x : Row). x.unmaps) is))
+      ]
+    ]
+
+-- nor where anything lies now
+none-now : (opening : List Mapping) (p : Placement) → IsSoundPlacement opening p → (at : ℕ) → Each (λ (r : Row). r.unmaps ≡ 0 → IsInside r.place at → ⊥) p.mappings
+    → (kind : Kind) (who : ℕ) (x : Place) → IsCurrent p.mappings kind who x → IsInside x at → ⊥
+none-now opening p s at none kind who x c inside = none c.at c.row c.found ((s.once c.at c.row c.found).never c.no_line) (subst (λ q. IsInside q at) (sym c.of_place) inside)
+
+-- an address that is not inside is before or behind
+outside : (p : Place) (at size : ℕ) → (IsInside p at → ⊥) → size ≡ p.pages * 4096 → (at < base_of p) ⊎ (base_of p + size ≤ at)
+outside p at size none is = elim (cases_lt at (base_of p)) [
+  | inl before ↦ inl before
+  | inr from ↦ elim (cases_lt at (base_of p + p.pages * 4096)) [
+    | inl to ↦ absurd (none (record { from = from; to = to }))
+    | inr behind ↦ inr (omega (arith, behind, is))
+  ]
+]
+
+length-split : (t : ℕ) (xs : List ℕ) → length (take t xs) + length (drop t xs) ≡ length xs
+length-split t xs = let front = length-take t xs in let back = length-drop t xs in omega (arith, front, back)
+
+first-not : (bytes : List ℕ) (stack : Place) (at : ℕ) (rest : List Segment) → (at < base_of stack) ⊎ (base_of stack + length bytes ≤ at) → holding (record { base = base_of stack; bytes = bytes; rights = data_rights; role = Stack } ∷ rest) at ≡ holding rest at
+first-not bytes stack at rest (inl before) = grind (arith, nat_tests)
+first-not bytes stack at rest (inr behind) = grind (arith, nat_tests)
+
+-- so a call finds nothing there, whatever its stack and its data hold
+module _ (rows : List Row) (number worker at : ℕ) (m : ModuleState) (stack : Place) (bytes fixed_data writable : List ℕ) (full : length bytes ≡ STACK_PAGES * PAGE_BYTES) (long : HasData m.image writable fixed_data) (is : IsPlacedModule rows number m) (on : IsPlacedStack rows worker stack) (part : IsInside m.part at → ⊥) (fixed : IsInside m.image.fixed at → ⊥) (stack_out : IsInside stack at → ⊥) where
+  movable-size : total (movable_pieces m.image (base_of m.part) writable) ≡ m.part.pages * 4096
+  movable-size =
+      let w = is.whole in
+      let table = length-page_of_words m.image.table (omega (arith, w.table_fits)) in
+      let cells = length-page_of_words (map (local_word (base_of m.part)) m.image.cells) (omega (arith, w.cells_fit, length-map m.image.cells (local_word (base_of m.part)))) in
+      let code = length-split (text_bytes m.image.text_pages) m.image.code in
+      omega (arith, table, cells, code, w.code, w.writable, long.movable, is.pages)
+
+  fixed-size : total (fixed_pieces m.image fixed_data) ≡ m.image.fixed.pages * 4096
+  fixed-size =
+      let w = is.whole in
+      let table = length-page_of_words m.image.table (omega (arith, w.table_fits)) in
+      let code = length-split (text_bytes m.image.fixed_text_pages) m.image.fixed_code in
+      omega (arith, table, code, w.fixed_code, w.fixed_data, long.immovable, w.fixed_size)
+
+  holds-none : holding (segments_of m.image m.part stack bytes fixed_data writable) at ≡ None
+  holds-none =
+      let movable = laid_out (base_of m.part) (movable_pieces m.image (base_of m.part) writable) in
+      let parts = holding-outside (fixed_pieces m.image fixed_data) (base_of m.image.fixed) at movable (outside m.image.fixed at (total (fixed_pieces m.image fixed_data)) fixed fixed-size) in
+      let last = holding-outside (movable_pieces m.image (base_of m.part) writable) (base_of m.part) at [] (outside m.part at (total (movable_pieces m.image (base_of m.part) writable)) part movable-size) in
+      let whole : holding (laid_out (base_of m.image.fixed) (fixed_pieces m.image fixed_data) ++ movable) at ≡ None = parts ∙ ap (λ xs. holding xs at) (sym (append-nil movable)) ∙ last in
+      first-not bytes stack at (laid_out (base_of m.image.fixed) (fixed_pieces m.image fixed_data) ++ movable) (outside stack at (length bytes) stack_out (omega (arith, full, on.pages))) ∙ whole
+
+-- and a fetch where nothing lies, behind region 1, is a fault
+fault-there : (at : ℕ) (memory : List Segment) → holding memory at ≡ None → 2 * REGION_BYTES < at → fetched memory at ≡ Fault
+unfolding fetched
+fault-there at memory none high =
+    let gate : (at == GATE) ≡ false = elim (eqb_tells at GATE) [ inl e ↦ absurd (omega (arith, e.1, high)) | inr e ↦ e.0 ] in
+    (λ j. if gate j then Gate else (if in_region_1 at then Fault else word_in at (none j)))
+    ∙ cond_both (in_region_1 at) Fault Fault (λ x. x ≡ Fault) (λ e. refl) (λ e. refl)
+
+module _ (seed workers fuel : ℕ) (images : List Image) (loaded : AreLoaded seed workers images) where
+  pub grown-from : (steps : List ReadyStep) → All (λ s. 1 ≤ line_of s) steps → IsGrown (opening_mappings workers (opening_drawn seed workers images).places) (opening_run workers images (opening_drawn seed workers images)).placement.mappings (run_of_seed seed workers images fuel steps)
+  grown-from steps some =
+      let s = opening_run workers images (opening_drawn seed workers images) in
+      grown-run (opening_of seed workers images) s.placement.mappings fuel s steps some (record { sound = run-opens seed workers images loaded; grows = grows-refl s.placement.mappings })
+
+  pub sound-run : (steps : List ReadyStep) → AreSteps images workers steps → IsSoundRun (opening_mappings workers (opening_drawn seed workers images).places) (run_of_seed seed workers images fuel steps)
+  sound-run steps are = (grown-from steps are.from_one).sound
+
+  -- data are as long as those of their images
+  pub data-long : (steps : List ReadyStep) → AreSteps images workers steps → All (λ (m : ModuleState). HasData m.image m.book.writable m.book.fixed) (run_of_seed seed workers images fuel steps).modules
+  data-long steps are = all-each (λ (m : ModuleState). HasData m.image m.book.writable m.book.fixed) (run_of_seed seed workers images fuel steps).modules (λ n m e. ((sound-run steps are).modules n m e).lengths)
+
+  -- a run of more steps goes on from the run of the first ones
+  runs-on : (before after : List ReadyStep) → run_of_seed seed workers images fuel (before ++ after) ≡ line_run fuel (run_of_seed seed workers images fuel before) after
+  runs-on before after = fold-append (after_step fuel) (opening_run workers images (opening_drawn seed workers images)) before after
+
+  grown-on : (before after : List ReadyStep) → AreSteps images workers (before ++ after)
+      → IsGrown (opening_mappings workers (opening_drawn seed workers images).places) (run_of_seed seed workers images fuel before).placement.mappings (run_of_seed seed workers images fuel (before ++ after))
+  grown-on before after are =
+      let opening = opening_of seed workers images in
+      let s = run_of_seed seed workers images fuel before in
+      let first = grown-from before (all-front (λ x. 1 ≤ line_of x) before after are.from_one) in
+      subst (IsGrown opening s.placement.mappings) (sym (runs-on before after))
+      (grown-run opening s.placement.mappings fuel s after (all-back (λ x. 1 ≤ line_of x) before after are.from_one) (record { sound = first.sound; grows = grows-refl s.placement.mappings }))
+
+  module _ (before after : List ReadyStep) (are : AreSteps images workers (before ++ after)) (old : ℕ) (gone : Row) (at : ℕ) (there : slice_get (run_of_seed seed workers images fuel before).placement.mappings old ≡ Some gone) (unmapped : 0 < gone.unmaps) (inside : IsInside gone.place at) where
+    stale : Each (λ (r : Row). r.unmaps ≡ 0 → IsInside r.place at → ⊥) (run_of_seed seed workers images fuel (before ++ after)).placement.mappings
+    stale =
+        let g = grown-on before after are in
+        let x = g.grows.each old gone there in
+        apart-now (opening_of seed workers images) (run_of_seed seed workers images fuel (before ++ after)).placement g.sound.sound old x.0 at x.1 (x.3 unmapped) (subst (λ q. IsInside q at) (sym x.2) inside)
+
+    pub stale-apart : All (λ (r : Row). r.unmaps ≡ 0 → IsInside r.place at → ⊥) (run_of_seed seed workers images fuel (before ++ after)).placement.mappings
+    stale-apart = all-each (λ (r : Row). r.unmaps ≡ 0 → IsInside r.place at → ⊥) (run_of_seed seed workers images fuel (before ++ after)).placement.mappings stale
+
+    high : 2 * REGION_BYTES < at
+    high =
+        let g = grown-on before after are in
+        let x = g.grows.each old gone there in
+        let p = (run_of_seed seed workers images fuel (before ++ after)).placement in
+        let is = g.sound.sound.are old x.0.place (place-at (opening_of seed workers images) p g.sound.sound old x.0 x.1) in
+        let from : base_of x.0.place ≤ at = subst (λ (q : Place). base_of q ≤ at) (sym x.2) inside.from in
+        omega (arith, is.region_from, is.page_before, from)
+
+    none-lies : (kind : Kind) (who : ℕ) (x : Place) → IsCurrent (run_of_seed seed workers images fuel (before ++ after)).placement.mappings kind who x → IsInside x at → ⊥
+    none-lies = none-now (opening_of seed workers images) (run_of_seed seed workers images fuel (before ++ after)).placement (grown-on before after are).sound.sound at stale
+
+    pub stale-nothing : All (λ (m : ModuleState). All (λ stack. InEachMemory m.image m.part stack (λ memory. holding memory at ≡ None)) (run_of_seed seed workers images fuel (before ++ after)).stacks) (run_of_seed seed workers images fuel (before ++ after)).modules
+    stale-nothing =
+        let s = run_of_seed seed workers images fuel (before ++ after) in
+        let g = (grown-on before after are).sound in
+        all-each (λ (m : ModuleState). All (λ stack. InEachMemory m.image m.part stack (λ memory. holding memory at ≡ None)) s.stacks) s.modules (λ n m e.
+        let is = g.modules n m e in
+        all-each (λ stack. InEachMemory m.image m.part stack (λ memory. holding memory at ≡ None)) s.stacks (λ k stack f bytes fixed writable full long.
+        let on = g.stacks k stack f in
+        holds-none s.placement.mappings n k at m stack bytes fixed writable full long is on (none-lies kinds.Code n m.part is.part) (none-lies kinds.Fixed n m.image.fixed is.fixed) (none-lies kinds.Stack k stack on.place)))
+
+    pub stale-fault : All (λ (m : ModuleState). All (λ stack. InEachMemory m.image m.part stack (λ memory. fetched memory at ≡ Fault)) (run_of_seed seed workers images fuel (before ++ after)).stacks) (run_of_seed seed workers images fuel (before ++ after)).modules
+    stale-fault =
+        let s = run_of_seed seed workers images fuel (before ++ after) in
+        all-each (λ (m : ModuleState). All (λ stack. InEachMemory m.image m.part stack (λ memory. fetched memory at ≡ Fault)) s.stacks) s.modules (λ n m e.
+        all-each (λ stack. InEachMemory m.image m.part stack (λ memory. fetched memory at ≡ Fault)) s.stacks (λ k stack f bytes fixed writable full long.
+        fault-there at (segments_of m.image m.part stack bytes fixed writable) (each-all (λ q. InEachMemory m.image m.part q (λ memory. holding memory at ≡ None)) s.stacks (each-all (λ (x : ModuleState). All (λ q. InEachMemory x.image x.part q (λ memory. holding memory at ≡ None)) s.stacks) s.modules stale-nothing n m e) k stack f bytes fixed writable full long) high))

@@ -1,0 +1,33 @@
+use Rattle.std.proofs.Common.{◌≡◌, ◌∙◌, ap, refl, length, unwrap_or}
+use Rattle.std.proofs.lemmas.Option.{slice_get_read}
+use Rattle.ad_base.specs.declared.ledger.Kind.TheVariants.{Code}
+use Rattle.ad_lines.specs.LineRun.{after_move, move_end, place_after, with_module_moved}
+use Rattle.ad_lines.specs.Room.{Running}
+use Rattle.ad_lines.specs.declared.line_run.ModuleRun.{ModuleRun}
+use Rattle.ad_lines.proofs.Steps.{moved, room-kept, within-images}
+use Rattle.ad_lines.proofs.line_run.LineRun.move_module.Goals as goal
+
+pub returns-clause-state : goal.returns-clause-state
+returns-clause-state c =
+    let r = c.self.inside in
+    let m = c.index_mut-moved.result.now in
+    let p = r.mappings.placement in
+    let n = c.args.«module» in
+    let within = within-images r.modules.items r.stacks.items p c.args.self.now.state n (ap (λ (v : Running). v.state) c.self.view_is) c.requires.moved in
+    let x = c.index.result.now in
+    let first = slice_get_read r.modules.items (length r.modules.items) n x refl within c.index.ensures in
+    let second = slice_get_read r.modules.items (length r.modules.items) n m refl within c.index_mut-moved.ensures.value in
+    let same : x ≡ m = cc in
+    let end = c.replace-end.ensures.end ∙ ap (λ (y : ModuleRun). move_end p.drawn Code y.part.pages) same in
+    let place = c.unwrap_or-moved.ensures ∙ (λ j. unwrap_or (c.place.ensures j) (same j).part) ∙ ap (place_after m.part) end in
+    let after = c.replace-end.ensures.after ∙ ap (λ (y : ModuleRun). after_move p c.args.line Code n y.part) same in
+    moved r.modules.items n m within c.index_mut-moved.ensures.value c.args.line r.stacks.items p c.replace-end.new.self.placement c.unwrap_or-moved.result place after
+    ∙ ap (λ (v : Running). with_module_moved c.args.line v.state n) c.self.view_is
+
+pub returns-clause-call_room : goal.returns-clause-call_room
+returns-clause-call_room c =
+    let r = c.self.inside in
+    let m = c.index_mut-moved.result.now in
+    let n = c.args.«module» in
+    let within = within-images r.modules.items r.stacks.items r.mappings.placement c.args.self.now.state n (ap (λ (v : Running). v.state) c.self.view_is) c.requires.moved in
+    room-kept r.modules.items n m within c.index_mut-moved.ensures.value c.unwrap_or-moved.result ∙ ap (λ (v : Running). v.call_room) c.self.view_is

@@ -1,0 +1,5 @@
+pub mod Ready
+pub mod LineRun
+pub mod Opening
+pub mod Room
+pub mod LineLaws

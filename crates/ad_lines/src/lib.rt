@@ -1,0 +1,15 @@
+//! The run of a script's lines on one thread, over any number of modules and workers.
+#![tactic(auto)]
+
+mod book_laws;
+mod line_run;
+mod mapping_laws;
+mod mappings;
+mod ready;
+#[cfg(test)]
+mod tests;
+
+pub use book_laws::{law_books, law_clear_replies};
+pub use line_run::{Finished, LineRun};
+pub use mapping_laws::{law_ledger, law_moves, law_stale_addresses};
+pub use ready::{Missing, ReadyStep, ready_steps};

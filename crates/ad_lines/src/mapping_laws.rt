@@ -1,0 +1,98 @@
+//! Laws of the moves and mappings of a line run. Each function makes no call: its contract is the law.
+
+ghost use Rattle.std.specs.Prelude.{◌≡◌, ◌≤◌, ◌<◌, ◌+◌, ◌*◌, ℕ, List, ◌++◌, length, map, slice_get, None, Some, All};
+ghost use Rattle.std.specs.List.{flat_map};
+ghost use Rattle.std.specs.List.Sorted.{IsNonDecreasingBy};
+ghost use Rattle.ad_base.specs.declared.image.Image.{Image};
+ghost use Rattle.ad_base.specs.declared.ledger.Kind.TheVariants as kinds;
+ghost use Rattle.ad_base.specs.declared.ledger.Row.{Row};
+ghost use Rattle.ad_base.specs.declared.place.Place.{Place};
+ghost use Rattle.ad_base.specs.Ledger.{IsLedger, IsUnmappedOnce, made_mappings};
+ghost use Rattle.ad_base.specs.Place.{IsInside};
+ghost use Rattle.ad_call.specs.Call.{HasData};
+ghost use Rattle.ad_core.specs.declared.bus.Fetched.TheVariants.{Fault};
+ghost use Rattle.ad_core.specs.Segments.{fetched, holding};
+ghost use Rattle.ad_place.specs.Choice.{places_of};
+ghost use Rattle.ad_lines.specs.declared.ready.ReadyStep.{ReadyStep};
+ghost use Rattle.ad_lines.specs.LineRun.{ModuleState};
+ghost use Rattle.ad_lines.specs.Opening.{AreLoaded, opening_drawn, opening_mappings, opening_requests, opening_run};
+ghost use Rattle.ad_lines.specs.LineLaws.{AreMoveEnds, AreSteps, InEachMemory, last_place, moved_by, moving_of, request_of, run_of_seed};
+
+use ad_base::MAPPINGS;
+
+/// The moves of a line run are those of its steps, in order, and each of its places is the next one that the seed
+/// chooses, for the pages of what is moved: a module's movable part or a stack. A move is spent exactly where 4,095 places were drawn before it, and no frame is ever busy. A module and a
+/// stack lie where the last move of them put them.
+pub fn law_moves()
+    ensures moves { (seed workers fuel : ℕ) (images : List Image) (steps : List ReadyStep)
+        → AreLoaded seed workers images → AreSteps images workers steps
+        → map moving_of (run_of_seed seed workers images fuel steps).placement.moves ≡ flat_map moved_by steps }
+    ensures order { (seed workers fuel : ℕ) (images : List Image) (steps : List ReadyStep)
+        → AreLoaded seed workers images → AreSteps images workers steps
+        → IsNonDecreasingBy (λ m. m.line) (run_of_seed seed workers images fuel steps).placement.moves }
+    ensures ends { (seed workers fuel : ℕ) (images : List Image) (steps : List ReadyStep)
+        → AreLoaded seed workers images → AreSteps images workers steps
+        → AreMoveEnds (workers + 2 * length images) (run_of_seed seed workers images fuel steps).placement.moves }
+    ensures places { (seed workers fuel : ℕ) (images : List Image) (steps : List ReadyStep)
+        → AreLoaded seed workers images → AreSteps images workers steps
+        → (run_of_seed seed workers images fuel steps).placement.drawn.places
+        ≡ places_of seed (opening_requests workers images ++ flat_map (request_of images) (run_of_seed seed workers images fuel steps).placement.moves) }
+    ensures few { (seed workers fuel : ℕ) (images : List Image) (steps : List ReadyStep)
+        → AreLoaded seed workers images → AreSteps images workers steps
+        → length (run_of_seed seed workers images fuel steps).placement.drawn.places ≤ MAPPINGS }
+    ensures parts { (seed workers fuel : ℕ) (images : List Image) (steps : List ReadyStep)
+        → AreLoaded seed workers images → AreSteps images workers steps
+        → (number : ℕ) (first now : ModuleState)
+        → slice_get (opening_run workers images (opening_drawn seed workers images)).modules number ≡ Some first
+        → slice_get (run_of_seed seed workers images fuel steps).modules number ≡ Some now
+        → now.part ≡ last_place kinds.Code number first.part (run_of_seed seed workers images fuel steps).placement.moves }
+    ensures stacks { (seed workers fuel : ℕ) (images : List Image) (steps : List ReadyStep)
+        → AreLoaded seed workers images → AreSteps images workers steps
+        → (worker : ℕ) (first now : Place)
+        → slice_get (opening_run workers images (opening_drawn seed workers images)).stacks worker ≡ Some first
+        → slice_get (run_of_seed seed workers images fuel steps).stacks worker ≡ Some now
+        → now ≡ last_place kinds.Stack worker first (run_of_seed seed workers images fuel steps).placement.moves }
+{}
+
+/// The rows of a line run are its ledger: one for each mapping, in order of number, with the line that retired it. What
+/// was retired was unmapped once, and nothing else was. Their places are those that were drawn, in order.
+pub fn law_ledger()
+    ensures ledger { (seed workers fuel : ℕ) (images : List Image) (steps : List ReadyStep)
+        → AreLoaded seed workers images → AreSteps images workers steps
+        → IsLedger (opening_mappings workers (opening_drawn seed workers images).places
+        ++ made_mappings (run_of_seed seed workers images fuel steps).placement.moves)
+        (run_of_seed seed workers images fuel steps).placement.mappings }
+    ensures unmapped { (seed workers fuel : ℕ) (images : List Image) (steps : List ReadyStep)
+        → AreLoaded seed workers images → AreSteps images workers steps
+        → All IsUnmappedOnce (run_of_seed seed workers images fuel steps).placement.mappings }
+    ensures places { (seed workers fuel : ℕ) (images : List Image) (steps : List ReadyStep)
+        → AreLoaded seed workers images → AreSteps images workers steps
+        → map (λ (r : Row). r.place) (run_of_seed seed workers images fuel steps).placement.mappings
+        ≡ (run_of_seed seed workers images fuel steps).placement.drawn.places }
+{}
+
+/// An address that leaked is stale once its mapping is unmapped: from then on it lies in no mapping of the run. In any
+/// later call of any module on any stack nothing lies there, and a fetch there is a fault, whatever bytes the stack and
+/// the data hold: so not at the start of the call alone. The data have as many bytes as those of the image.
+pub fn law_stale_addresses()
+    ensures apart { (seed workers fuel : ℕ) (images : List Image) (before after : List ReadyStep)
+        → AreLoaded seed workers images → AreSteps images workers (before ++ after)
+        → (old : ℕ) (gone : Row) (at : ℕ) → slice_get (run_of_seed seed workers images fuel before).placement.mappings old ≡ Some gone
+        → 0 < gone.unmaps → IsInside gone.place at
+        → All (λ (r : Row). r.unmaps ≡ 0 → IsInside r.place at → ⊥) (run_of_seed seed workers images fuel (before ++ after)).placement.mappings }
+    ensures lengths { (seed workers fuel : ℕ) (images : List Image) (steps : List ReadyStep)
+        → AreLoaded seed workers images → AreSteps images workers steps
+        → All (λ (m : ModuleState). HasData m.image m.book.writable m.book.fixed) (run_of_seed seed workers images fuel steps).modules }
+    ensures nothing { (seed workers fuel : ℕ) (images : List Image) (before after : List ReadyStep)
+        → AreLoaded seed workers images → AreSteps images workers (before ++ after)
+        → (old : ℕ) (gone : Row) (at : ℕ) → slice_get (run_of_seed seed workers images fuel before).placement.mappings old ≡ Some gone
+        → 0 < gone.unmaps → IsInside gone.place at
+        → All (λ (m : ModuleState). All (λ stack. InEachMemory m.image m.part stack (λ memory. holding memory at ≡ None))
+        (run_of_seed seed workers images fuel (before ++ after)).stacks) (run_of_seed seed workers images fuel (before ++ after)).modules }
+    ensures fault { (seed workers fuel : ℕ) (images : List Image) (before after : List ReadyStep)
+        → AreLoaded seed workers images → AreSteps images workers (before ++ after)
+        → (old : ℕ) (gone : Row) (at : ℕ) → slice_get (run_of_seed seed workers images fuel before).placement.mappings old ≡ Some gone
+        → 0 < gone.unmaps → IsInside gone.place at
+        → All (λ (m : ModuleState). All (λ stack. InEachMemory m.image m.part stack (λ memory. fetched memory at ≡ Fault))
+        (run_of_seed seed workers images fuel (before ++ after)).stacks) (run_of_seed seed workers images fuel (before ++ after)).modules }
+{}

@@ -1,0 +1,2 @@
+pub mod AtLine
+pub mod Places

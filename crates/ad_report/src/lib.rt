@@ -1,0 +1,14 @@
+//! The text that is printed of a run.
+#![tactic(auto)]
+
+mod calls;
+mod line;
+mod mappings;
+mod moves;
+mod print;
+mod script;
+#[cfg(test)]
+mod tests;
+mod text;
+
+pub use text::report;

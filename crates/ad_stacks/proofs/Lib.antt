@@ -1,0 +1,14 @@
+pub mod Allowed
+pub mod Changed
+pub mod Closing
+pub mod Ended
+pub mod Frames
+pub mod InOrder
+pub mod Numbers
+pub mod Openings
+pub mod ReadingLaws
+pub mod Rows
+pub mod Seats
+pub mod Sound
+pub mod StepLaws
+pub mod Writes

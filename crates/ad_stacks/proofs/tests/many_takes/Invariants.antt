@@ -1,0 +1,8 @@
+use Rattle.std.proofs.Common.{◌≡◌}
+use Rattle.ad_stacks.proofs.tests.many_takes.Given as goal
+
+abbrev pub invariant-loop-round : goal.invariant-loop-round
+invariant-loop-round l = record {
+  table : l.seat.table ≡ l.initial.seat.table;
+  worker : l.seat.worker ≡ l.initial.seat.worker;
+}

@@ -1,0 +1,11 @@
+pub mod Account
+pub mod Laws
+pub mod Ledger
+pub mod Names
+pub mod Private
+pub mod Reading
+pub mod Rule
+pub mod Seen
+pub mod StackPlace
+pub mod Steps
+pub mod Worked

@@ -1,0 +1,107 @@
+//! The laws of the steps. Each function makes no call: its contract is the law.
+
+ghost use Rattle.std.specs.Prelude.{◌≡◌, ◌<◌, ℕ, List, [], ◌∷◌, All, AllPairs};
+ghost use Rattle.ad_stacks.specs.declared.view.Given.{Given};
+ghost use Rattle.ad_stacks.specs.Account.{in_lane, gone, line_of, status, takes_of, AreLawful};
+ghost use Rattle.ad_stacks.specs.Ledger.{all_given, by_number, rows_given};
+ghost use Rattle.ad_stacks.specs.Worked.{worked_history, worked_place, worked_refresh, worked_row};
+ghost use Rattle.ad_stacks.specs.Reading.{ReadingLaw, HeldLaw, QuietLaw, LanesLaw, HandsLaw, NumbersLaw, GoneOnceLaw};
+ghost use Rattle.ad_stacks.specs.Laws.{TakeLaw, PutLaw, GoneLaw, MoverGoneLaw, RecordLaw, RefreshLaw, MarkLaw, SplitLaw, JoinLaw};
+
+/// A take is lawful, keeps the rule, and is the event `took`, of the place whose word it found.
+pub fn law_take()
+    ensures { TakeLaw }
+{}
+
+/// A put is lawful, keeps the rule, and is the event `put`.
+pub fn law_put()
+    ensures { PutLaw }
+{}
+
+/// A worker's unmap step keeps the rule, and is no event.
+pub fn law_gone()
+    ensures { GoneLaw }
+{}
+
+/// The mover's unmap step keeps the rule, and is no event.
+pub fn law_mover_gone()
+    ensures { MoverGoneLaw }
+{}
+
+/// To record a new stack keeps the rule, and is no event.
+pub fn law_record()
+    ensures { RecordLaw }
+{}
+
+/// A refresh's swap is lawful, keeps the rule, and is the event `refreshed`.
+pub fn law_refresh()
+    ensures { RefreshLaw }
+{}
+
+/// To mark a replaced stack keeps the rule, and is no event.
+pub fn law_mark()
+    ensures { MarkLaw }
+{}
+
+/// To split off a worker's seat keeps the rule, and is no event.
+pub fn law_split()
+    ensures { SplitLaw }
+{}
+
+/// To join a worker's seat keeps the rule, and is no event.
+pub fn law_join()
+    ensures { JoinLaw }
+{}
+
+/// The account is read off the words and the views: In off the lanes, Held off the seats' views, and
+/// Gone off the record words, or before its unmap step off the view of the seat that owes it.
+pub fn law_reading()
+    ensures { ReadingLaw }
+{}
+
+/// A stack that a seat holds is Held and not Gone, and no unmap step was made on it.
+pub fn law_held()
+    ensures { HeldLaw }
+{}
+
+/// Where no stack is held and no put or refresh is under way, each replaced stack is Gone, its record
+/// word counts exactly one unmap step, and its mark is the line that replaced it. No other is Gone.
+pub fn law_quiet()
+    ensures { QuietLaw }
+{}
+
+/// Of each lawful history: a lane has a stack exactly where that stack is In it, and a worker holds one
+/// exactly where it is Held.
+pub fn law_lanes()
+    ensures lanes { LanesLaw }
+    ensures hands { HandsLaw }
+{}
+
+/// Of each lawful history: the mapping numbers that a worker took never fall.
+pub fn law_numbers()
+    ensures { NumbersLaw }
+{}
+
+/// Of each lawful history: a stack that is Gone was made so by exactly one event, and none is made Gone
+/// twice.
+pub fn law_gone_once()
+    ensures { GoneOnceLaw }
+{}
+
+/// The rows of stacks whose numbers rise are in order of number as they stand. So where the numbers of the
+/// opening rise, the rows of a closed table are one for each stack given, in that order.
+pub fn law_rows_in_order()
+    ensures { (gs : List Given) (n : ℕ) → AllPairs (λ (g h : Given). g.place.mapping < h.place.mapping) gs
+        → All (λ (g : Given). g.place.mapping < n) gs → by_number (rows_given gs) n ≡ rows_given gs }
+{}
+
+/// A worked history: mapping 1 is taken, its lane is given mapping 2 in line 4, and mapping 1 is put back.
+/// Then mapping 1 is Gone and mapping 2 is In the lane; the rows say the same.
+pub fn law_worked_history()
+    ensures lawful { AreLawful worked_history }
+    ensures replaced { status worked_history 1 ≡ gone 0 (worked_place 1) }
+    ensures inside { status worked_history 2 ≡ in_lane 0 (worked_place 2) }
+    ensures line { line_of worked_history 1 ≡ 4 }
+    ensures takes { takes_of worked_history 0 ≡ worked_place 1 ∷ [] }
+    ensures rows { by_number (rows_given (all_given (worked_place 1 ∷ []) (worked_refresh ∷ []))) 3 ≡ worked_row 1 4 1 ∷ worked_row 2 0 0 ∷ [] }
+{}
