@@ -108,7 +108,7 @@ freed_unpaid = run opening_of_two (Enter 1 0 ∷ Read 1 0 1 ∷ retired_inside +
 abbrev pub put_off : List Step
 put_off = retired_inside ++ Leave 0 ∷ Pay 0 ∷ []
 
--- two seats that both unmap the mapping of one batch
+-- two agents that both unmap the mapping of one batch
 abbrev pub freed_twice : List Step
 freed_twice = retired_inside ++ then_left ++ Unmap 1 Mover ∷ []
 

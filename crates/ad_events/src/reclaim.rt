@@ -30,7 +30,7 @@ pub fn law_batch_is_told()
 {}
 
 /// A worker is inside a mapping that is listed in a batch: the batch isn't opened yet, or hasn't passed the seat's slot, or the
-/// seat owes it. So a mapping that a worker is inside isn't gone.
+/// seat owes it; and the seat's entry number is below the batch's. So a mapping that a worker is inside isn't gone.
 pub fn law_pinned()
     ensures pinned { AfterEveryRun Pinned }
     ensures not_gone { AfterEveryRun NotGoneInside }
@@ -48,7 +48,8 @@ pub fn law_zero_is_the_right()
     ensures only { AfterEveryRun OnlyWhoZeroedUnmaps }
 {}
 
-/// The batch of a mapping that is gone is opened and was brought to zero. A worker that has left, has paid what it owed and has
+/// The batch of a mapping that is gone is opened and was brought to zero. What an agent has left to free grows by its own steps
+/// alone, by those that bring a batch to zero, and then by that batch. A worker that has left, has paid what it owed and has
 /// unmapped the mappings of each batch that it brought to zero owes nothing and has nothing left to free. A batch that the
 /// mover has settled on each slot is settled everywhere, and where it unmapped the mappings of each batch that it brought to
 /// zero, it has nothing left to free.

@@ -21,13 +21,18 @@ pub fn schedule_of_three()
 {}
 
 /// A mapping that is retired while a worker is inside it stays retired, and nobody may unmap it. Once the worker has left and
-/// paid, it is unmapped, and all is quiet.
+/// paid, it is unmapped, by exactly one step, and all is quiet. The mapping that took its place is then current, in no batch, and
+/// no step unmaps it.
 pub fn retired_under_a_worker()
     ensures possible { MayRun opening_of_one (retired_inside ++ then_left) }
     ensures owed { count_of (run opening_of_one retired_inside).owed 1 ≡ 1 }
     ensures retired { status_of (run opening_of_one retired_inside).world 1 ≡ Some Retired }
     ensures by_nobody { (a : Agent) → ¬ MayStep (run opening_of_one retired_inside) (Unmap 1 a) }
     ensures gone { status_of (run opening_of_one (retired_inside ++ then_left)).world 1 ≡ Some Gone }
+    ensures once { count_by (unmaps 1) (events_of (retired_inside ++ then_left)) ≡ 1 }
+    ensures current { status_of (run opening_of_one (retired_inside ++ then_left)).world 2 ≡ Some Current }
+    ensures unlisted { (run opening_of_one (retired_inside ++ then_left)).batch 2 ≡ None }
+    ensures never { count_by (unmaps 2) (events_of (retired_inside ++ then_left)) ≡ 0 }
     ensures quiet { IsQuiet (run opening_of_one (retired_inside ++ then_left)) }
 {}
 
@@ -67,7 +72,7 @@ pub fn zero_is_put_off()
     ensures retired { status_of (run opening_of_one put_off).world 1 ≡ Some Retired }
 {}
 
-/// Two seats that free one batch: its mapping is unmapped twice.
+/// Two agents that free one batch: its mapping is unmapped twice.
 pub fn batch_is_freed_twice()
     ensures twice { count_by (unmaps 1) (events_of freed_twice) ≡ 2 }
     ensures broken { ¬ AllIsGone (run opening_of_one freed_twice) freed_twice }

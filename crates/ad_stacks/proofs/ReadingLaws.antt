@@ -1,24 +1,26 @@
 -- How the account is read off the words and the views.
-use Rattle.std.proofs.Common.{◌≡◌, ◌⊎◌, inl, inr, ℕ, cond, not, ◌&&◌, ◌+◌, ◌<◌, List, [], ◌∷◌, length, get_or, Option, None, Some, sym, refl, ap, ◌∙◌, subst, arith}
+use Rattle.std.proofs.Common.{◌≡◌, ◌⊎◌, inl, inr, ℕ, cond, not, ◌&&◌, ◌+◌, ◌*◌, ◌^◌, ◌<◌, ◌≤◌, List, [], ◌∷◌, length, get_or, Option, None, Some, sym, refl, ap, ◌∙◌, subst, arith}
 use mathlib.Core.Option.{some}
 use mathlib.Core.Logic.{dite}
 use native.Mathlib.Decide.{dec_lt, ℕ_discrete}
 use lib.ListN.{get_elem?}
 use Rattle.ad_base.specs.declared.place.Place.{Place}
+use Rattle.ad_base.specs.Place.{packed}
 use Rattle.ad_stacks.specs.declared.view.Hand.{Hand}
 use Rattle.ad_stacks.specs.declared.view.Stance.{Stance}
 use Rattle.ad_stacks.specs.declared.view.Stance.TheVariants as stance
 use Rattle.ad_stacks.specs.declared.view.Stage.{Stage}
 use Rattle.ad_stacks.specs.declared.view.Stage.TheVariants as stage
-use Rattle.ad_stacks.specs.declared.view.Doing.TheVariants.{Worker, Mover}
+use Rattle.ad_stacks.specs.declared.view.Doing.{Doing}
+use Rattle.ad_stacks.specs.declared.view.Doing.TheVariants.{Spent, Worker, Mover}
 use Rattle.ad_stacks.specs.Names.{Lane, Record}
 use Rattle.ad_stacks.specs.StackPlace.{record_word}
 use Rattle.ad_stacks.specs.Account.{Event, Status, unmade, in_lane, held, gone, status, takes_of, line_of, AreLawful}
-use Rattle.ad_stacks.specs.Rule.{St, Kept, Records, Counts, IsOwed, IsMoverOwed, IsNumberOf, holding}
+use Rattle.ad_stacks.specs.Rule.{St, Kept, Records, Counts, IsOwed, IsMoverOwed, IsNumberOf, IsRecorded, IsGone, OwesGone, StageStands, holding}
 use Rattle.ad_stacks.specs.Steps.{hand}
-use Rattle.ad_stacks.specs.Reading.{IsOwedBySome, ReadingLaw, HeldLaw, IsQuiet, IsGoneOnce, QuietLaw, LanesLaw, HandsLaw, NumbersLaw, is_gone, times_gone, GoneOnceLaw}
+use Rattle.ad_stacks.specs.Reading.{OwesMapping, IsOwedBySome, ReadingLaw, HeldLaw, IsQuiet, IsGoneOnce, QuietLaw, LanesLaw, HandsLaw, NumbersLaw, is_gone, times_gone, GoneOnceLaw}
 use Rattle.ad_stacks.proofs.Ended.{counted_gone, mark_is, none_held}
-use Rattle.ad_stacks.proofs.Numbers.{number_fits}
+use Rattle.ad_stacks.proofs.Numbers.{number_fits, packed_small}
 use Rattle.ad_stacks.proofs.Sound.{sound_of, at_status, gone_stays, IsMade}
 use Rattle.ad_stacks.proofs.StepLaws.{sound, mover_knows}
 
@@ -38,6 +40,38 @@ decide_mover_owed (stage.Recorded g) m = no (λ o. o)
 decide_mover_owed (stage.Replaced n line old) m = decide_number old m
 decide_mover_owed (stage.Owes p) m = ℕ_discrete p.mapping m
 
+-- the mapping m is Gone
+abbrev IsGoneNow : List Event → ℕ → Type 0
+IsGoneNow past m = (w : ℕ) × (p : Place) × (status past m ≡ gone w p)
+
+-- what a worker or the mover owes is Gone
+owed_by_worker : (past : List Event) (w m : ℕ) (d : Stance) → OwesGone past w d → IsOwed d m → IsGoneNow past m
+owed_by_worker past w m stance.Rest g o = absurd o
+owed_by_worker past w m (stance.Holds p) g o = absurd o
+owed_by_worker past w m (stance.Owes p) g o = (w, p, ap (status past) (sym o) ∙ g)
+
+owed_number : (past : List Event) (m : ℕ) (o : Option Place) → IsGone past o → IsNumberOf o m → IsGoneNow past m
+owed_number past m None g o = absurd o
+owed_number past m (Some p) g o = (g.0, p, ap (status past) (sym o) ∙ g.1)
+
+owed_by_mover : (recorded : ℕ → ℕ) (past : List Event) (lanes m : ℕ) (d : Stage) → StageStands recorded past lanes d → IsMoverOwed d m → IsGoneNow past m
+owed_by_mover recorded past lanes m stage.Idle g o = absurd o
+owed_by_mover recorded past lanes m (stage.Recorded x) g o = absurd o
+owed_by_mover recorded past lanes m (stage.Replaced n line old) g o = owed_number past m old g.went o
+owed_by_mover recorded past lanes m (stage.Owes p) g o = owed_number past m (Some p) g o
+
+-- the record word of a mapping that isn't made counts no unmap step
+unmade_small : (recorded : ℕ → ℕ) (past : List Event) (lanes m : ℕ) (d : Stage) → lanes ≤ 64 → StageStands recorded past lanes d → ((IsRecorded d m → ⊥) → recorded m ≡ 0) → recorded m < 2 ^ 56
+unmade_small recorded past lanes m stage.Idle few g none = let a = none (λ o. o) in omega arith
+unmade_small recorded past lanes m (stage.Replaced n line old) few g none = let a = none (λ o. o) in omega arith
+unmade_small recorded past lanes m (stage.Owes p) few g none = let a = none (λ o. o) in omega arith
+unmade_small recorded past lanes m (stage.Recorded x) few g none = dite (ℕ_discrete x.place.mapping m)
+    (λ e. subst (λ (k : ℕ). recorded k < 2 ^ 56) e (subst (λ (k : ℕ). k < 2 ^ 56) (sym g.word) (below (packed x.place) x.lane (packed_small x.place g.place) (let a = g.lane in omega arith))))
+    (λ ne. let a = none ne in omega arith)
+  where
+    below : (n w : ℕ) → n < 2 ^ 48 → w < 64 → n + w * 2 ^ 48 + 0 * 2 ^ 56 < 2 ^ 56
+    below n w a b = omega arith
+
 module _ (openings : List Place) (s : St) (r : Kept openings s) where
   fits : (m : ℕ) {w : ℕ} {p : Place} → IsMade r.past m w p → m < 4096
   fits m {w} {p} made = let a = number_fits p made.place in let b = made.number in omega arith
@@ -52,6 +86,21 @@ module _ (openings : List Place) (s : St) (r : Kept openings s) where
 
   not_rest : (w m : ℕ) → IsOwed (r.stances w) m → r.stances w ≡ stance.Rest → ⊥
   not_rest w m o e = subst (λ (d : Stance). IsOwed d m) e o
+
+  -- a stack that is Held is held by a seat
+  holder : (m w : ℕ) (p : Place) → status r.past m ≡ held w p → (id : ℕ) × (h : Hand) × (get_elem? s.views id ≡ some (Worker w h)) × (holding h.stance ≡ Some p)
+  holder m w p e =
+      let holds : holding (r.stances w) ≡ Some p = sym (r.each_lane w).holds ∙ (at_status (sound openings s r) m (held w p) e).holds in
+      (r.owner w, hand (r.stances w) (takes_of r.past w), has_seat w (λ rest. let f : None ≡ Some p = ap holding (sym rest) ∙ holds in let g : ⊥ = cc in g), holds)
+
+  owed : (id m : ℕ) (view : Doing) → get_elem? s.views id ≡ some view → OwesMapping view m → IsGoneNow r.past m
+  owed id m Spent at o = absurd o
+  owed id m (Worker w h) at o = owed_by_worker r.past w m (r.stances w) (r.each_lane w).owes (subst (λ (x : Hand). IsOwed x.stance m) (r.each_seat id (Worker w h) at).3 o)
+  owed id m (Mover q) at o = owed_by_mover r.words.recorded r.past (length openings) m q.stage (mover_knows openings s r id q at).planned.stage o
+
+  not_made : (m : ℕ) → m < 4096 → status r.past m ≡ unmade → get_or s.words (64 + m) 0 < 2 ^ 56
+  not_made m low e = subst (λ (k : ℕ). k < 2 ^ 56) (sym (r.reads.1 (Record m) low))
+      (unmade_small r.words.recorded r.past (length openings) m r.plan.stage r.few r.planned.stage (subst (Records r.words.recorded r.stances r.plan.stage m) e (r.each_record m)))
 
   went : (m w : ℕ) (p : Place) → status r.past m ≡ gone w p → (get_or s.words (64 + m) 0 ≡ record_word p w 1) ⊎ (IsOwedBySome s.views m × (get_or s.words (64 + m) 0 ≡ record_word p w 0))
   went m w p e =
@@ -95,9 +144,12 @@ pub reading_law : ReadingLaw
 reading_law openings s r = record {
   lanes = λ w low. r.reads.1 (Lane w) low ∙ (r.each_lane w).word;
   hands = λ id w h at. (r.each_lane w).holds ∙ ap holding (ap (λ (x : Hand). x.stance) (sym (r.each_seat id (Worker w h) at).3));
+  held_by = holder openings s r;
   word_gone = went openings s r;
+  owed_gone = owed openings s r;
   word_in = in_it openings s r;
   word_held = in_hand openings s r;
+  word_unmade = not_made openings s r;
   takes = λ id w h at. ap (λ (x : Hand). x.taken) (r.each_seat id (Worker w h) at).3;
   refreshes = λ id q at. (mover_knows openings s r id q at).planned.made;
 }

@@ -1,9 +1,9 @@
 -- How the account is read off the words and the views, and what it promises.
-use Rattle.std.specs.Prelude.{◌≡◌, ◌⊎◌, ℕ, ◌+◌, ◌<◌, Bool, true, false, not, ◌&&◌, List, [], ◌∷◌, slice_index, Some, if◌then◌else◌}
+use Rattle.std.specs.Prelude.{◌≡◌, ◌⊎◌, ℕ, ◌+◌, ◌^◌, ◌<◌, Bool, true, false, not, ◌&&◌, List, [], ◌∷◌, slice_index, Some, if◌then◌else◌}
 use mathlib.Core.Option.{some}
 use lib.ListN.{get_elem?}
 use Rattle.ad_base.specs.declared.place.Place.{Place}
-use Rattle.ad_stacks.specs.declared.words.TheConstants.{LANES}
+use Rattle.ad_stacks.specs.declared.words.TheConstants.{LANES, NUMBERS}
 use Rattle.ad_stacks.specs.declared.view.Hand.{Hand}
 use Rattle.ad_stacks.specs.declared.view.Plan.{Plan}
 use Rattle.ad_stacks.specs.declared.view.Stance.TheVariants as stance
@@ -26,14 +26,18 @@ abbrev pub IsOwedBySome : List Doing → ℕ → Type 0
 IsOwedBySome views m = (id : ℕ) × (view : Doing) × (get_elem? views id ≡ some view) × OwesMapping view m
 
 -- In is read off the lane's word, Held off the worker's view, and Gone off the record word, or before
--- the unmap step off the view of the seat that owes it. No other stack counts an unmap step
+-- the unmap step off the view of the seat that owes it. What is Held has a seat that holds it, what a
+-- seat owes is Gone, and no other mapping, made or unmade, counts an unmap step
 pub record IsRead (s : St) (past : List Event) : Type 0 where
   pub lanes : (w : ℕ) → w < LANES → slice_index s.words (index (Lane w)) ≡ lane_word (lane_of past w)
   pub hands : (id w : ℕ) (h : Hand) → get_elem? s.views id ≡ some (Worker w h) → held_of past w ≡ holding h.stance
+  pub held_by : (m w : ℕ) (p : Place) → status past m ≡ held w p → (id : ℕ) × (h : Hand) × (get_elem? s.views id ≡ some (Worker w h)) × (holding h.stance ≡ Some p)
   pub word_gone : (m w : ℕ) (p : Place) → status past m ≡ gone w p
       → (slice_index s.words (index (Record m)) ≡ record_word p w 1) ⊎ (IsOwedBySome s.views m × (slice_index s.words (index (Record m)) ≡ record_word p w 0))
+  pub owed_gone : (id m : ℕ) (view : Doing) → get_elem? s.views id ≡ some view → OwesMapping view m → (w : ℕ) × (p : Place) × (status past m ≡ gone w p)
   pub word_in : (m w : ℕ) (p : Place) → status past m ≡ in_lane w p → slice_index s.words (index (Record m)) ≡ record_word p w 0
   pub word_held : (m w : ℕ) (p : Place) → status past m ≡ held w p → slice_index s.words (index (Record m)) ≡ record_word p w 0
+  pub word_unmade : (m : ℕ) → m < NUMBERS → status past m ≡ unmade → slice_index s.words (index (Record m)) < 2 ^ 56
   pub takes : (id w : ℕ) (h : Hand) → get_elem? s.views id ≡ some (Worker w h) → h.taken ≡ takes_of past w
   pub refreshes : (id : ℕ) (q : Plan) → get_elem? s.views id ≡ some (Mover q) → q.made ≡ refreshes_of past
 

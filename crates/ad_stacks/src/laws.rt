@@ -54,7 +54,8 @@ pub fn law_join()
 {}
 
 /// The account is read off the words and the views: In off the lanes, Held off the seats' views, and
-/// Gone off the record words, or before its unmap step off the view of the seat that owes it.
+/// Gone off the record words, or before its unmap step off the view of the seat that owes it. Some seat
+/// holds each stack that is Held, each that a seat owes is Gone, and only a Gone one counts unmap steps.
 pub fn law_reading()
     ensures { ReadingLaw }
 {}

@@ -145,9 +145,9 @@ impl Stacks {
         StackSeat { seat, worker }
     }
 
-    /// Gives the lane a new stack, in this line of the script: it is what the next take gives. The one
-    /// that is In the lane is unmapped here, and one that is held by its worker's put. The mapping that the
-    /// lane was given last is marked with the line.
+    /// Gives the lane a new stack, in this line of the script: it is what the next take gives, unless another
+    /// refresh comes before it. The one that is In the lane is unmapped here, and one that is held by its
+    /// worker's put. The mapping that the lane was given last is marked with the line.
     pub fn refresh(&self, mover: &mut StackMover, lane: u64, place: Place, line: u64)
         requires table { mover.old.table ≡ self.now.table }
         requires lane { lane < mover.old.lanes }

@@ -62,7 +62,7 @@ fn renew(stacks: &Stacks, mover: &mut StackMover, lane: u64, number: u16, line: 
     stacks.refresh(mover, lane, stack_place(number), line);
 }
 
-/// Gives lane 0 so many new stacks, numbered from this number on, each in the line of ten times its number.
+/// Gives lane 0 so many new stacks, numbered from this number on, each in the line of twice its number.
 fn renew_from(stacks: &Stacks, mover: &mut StackMover, first: u16, times: u16)
     requires table { mover.old.table ≡ stacks.now.table }
     requires lane { 0 < mover.old.lanes }
@@ -75,7 +75,7 @@ fn renew_from(stacks: &Stacks, mover: &mut StackMover, first: u16, times: u16)
 {
     for more in 0..times {
         let number = first + more;
-        renew(stacks, mover, 0, number, u64::from(number) * 10);
+        renew(stacks, mover, 0, number, u64::from(number) * 2);
     }
 }
 
@@ -134,7 +134,8 @@ fn two_takes(
     Ok(close_one(alloc, stacks, mover, seat)?)
 }
 
-/// Numbers of refreshes before the first take, while held, and after the put.
+/// Numbers of refreshes before the first take, while held, and after the put. In the second case mapping 1
+/// is replaced by mapping 2 in line 4, while it is held.
 const CASES: [(u16, u16, u16); 7] = [
     (0, 0, 0),
     (0, 1, 0),
@@ -161,7 +162,7 @@ fn each_replaced_stack_is_unmapped_once(rt: HostRuntime) -> Result<(), Fail> {
             assert_eq!(rt;
                 row.line,
                 if replaced {
-                    (u64::from(number) + 1) * 10
+                    (u64::from(number) + 1) * 2
                 } else {
                     0
                 }

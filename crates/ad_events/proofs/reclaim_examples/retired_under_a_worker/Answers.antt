@@ -20,6 +20,9 @@ gone = status-shown _ _ (shown 1 1 (1 ∷ []) (retired_inside ++ then_left)) 1
 pub returns-clause-gone : goal.returns-clause-gone
 returns-clause-gone c = gone
 
+pub returns-clause-current : goal.returns-clause-current
+returns-clause-current c = status-shown _ _ (shown 1 1 (1 ∷ []) (retired_inside ++ then_left)) 2
+
 pub returns-clause-quiet : goal.returns-clause-quiet
 returns-clause-quiet c =
     let j = run opening_of_one (retired_inside ++ then_left) in
