@@ -1,4 +1,5 @@
 pub mod Lists
 pub mod Ring
 pub mod Taken
+pub mod TextImage
 pub mod Zeros

@@ -1,7 +1,9 @@
--- Which images are whole, and the zero bytes that fill up their pages.
-use Rattle.std.specs.Prelude.{◌≡◌, ℕ, ◌+◌, ◌*◌, ◌≤◌, List, length, replicate}
+-- Which images are whole, the zero bytes that fill up their pages, and the image of a text alone.
+use Rattle.std.specs.Prelude.{◌≡◌, ℕ, ◌+◌, ◌-◌, ◌*◌, ◌≤◌, List, [], ◌++◌, length, replicate}
 use Rattle.ad_base.specs.declared.layout.TheConstants.{LOCAL_PAGES, LOCAL_WORDS, PAGE_BYTES, PART_PAGES, STUB_PAGES, TABLE_PAGES, TABLE_WORDS}
+use Rattle.ad_base.specs.declared.image.Export.{Export}
 use Rattle.ad_base.specs.declared.image.Image.{Image}
+use Rattle.ad_base.specs.declared.place.Place.{Place}
 use Rattle.ad_base.specs.Place.{IsModulePlace}
 
 -- so many zero bytes
@@ -29,3 +31,23 @@ pub record IsWhole (i : Image) : Type 0 where
   pub table_fits : length i.table ≤ TABLE_WORDS
   pub fixed_size : i.fixed.pages ≡ fixed_pages i
   pub fixed_place : IsModulePlace i.fixed
+
+-- The image of a page of text and nothing else: the text's page and the stub pages are filled up with zeros, and there
+-- are no cells, no table entries and no data. The immovable part lies at a place.
+abbrev pub text_image : List ℕ → List Export → Place → Image
+text_image text exports fixed = record {
+  text_pages = 1;
+  read_pages = 0;
+  data_pages = 0;
+  code = text ++ zeros ((1 + STUB_PAGES) * PAGE_BYTES - length text);
+  cells = [];
+  writable = [];
+  table = [];
+  fixed_text_pages = 0;
+  fixed_read_pages = 0;
+  fixed_data_pages = 0;
+  fixed_code = zeros (STUB_PAGES * PAGE_BYTES);
+  fixed_data = [];
+  fixed = fixed;
+  exports = exports;
+}

@@ -1,4 +1,5 @@
 pub mod Book
+pub mod Count
 pub mod End
 pub mod ExportName
 pub mod History
@@ -7,4 +8,4 @@ pub mod Ledger
 pub mod Memory
 pub mod Outside
 pub mod Place
-pub mod Ring
+pub mod Private

@@ -1,14 +1,11 @@
 -- What is seen of files and of a sink that lie in memory, for tests.
-use Rattle.std.specs.Prelude.{◌≡◌, ℕ, ◌+◌, ◌-◌, ◌^◌, ◌<◌, ◌≤◌, ◌⊎◌, ◌++◌, min, length, take, find, bytes_eq, Contains, List, Option, None, option_map, IfSome, Result, Ok, Err}
+use Rattle.std.specs.Prelude.{◌≡◌, ℕ, ◌-◌, ◌<◌, ◌≤◌, ◌⊎◌, ◌++◌, min, length, take, find, bytes_eq, Contains, List, Option, None, option_map, IfSome, Result, Ok, Err}
 use Rattle.ad_base.specs.declared.files.Fetch.{Fetch}
 use Rattle.ad_base.specs.declared.files.Fetch.TheVariants.{Failed, TooLarge, OutOfMemory}
 use Rattle.ad_base.specs.declared.layout.TheConstants.{FILE_BYTES}
 use Rattle.ad_base.specs.declared.mem_files.MemFile.{MemFile}
+use Rattle.ad_base.specs.Count.{risen}
 use Rattle.ad_base.specs.Outside.{asked_after}
-
--- one more than a count, which stands still at the end of its type
-abbrev pub risen : ℕ → ℕ
-risen count = min (count + 1) (2 ^ 64 - 1)
 
 -- files in memory: the files, the numbers of the calls that fail, the names asked for, how many calls
 -- there were, and how many of them failed

@@ -1,5 +1,5 @@
--- Words on the outside: what is told of it, and its counts of faults.
-use Rattle.std.specs.Prelude.{◌≡◌, ℕ, ◌+◌, ◌^◌, ◌<◌, ◌⊎◌, ◌++◌, ◌∷◌, [], List, Option, Result, Ok, Err, IfSome}
+-- What is told of the outside: of files, and of a sink.
+use Rattle.std.specs.Prelude.{◌≡◌, ℕ, ◌++◌, ◌∷◌, [], List, Option, Result, Ok, Err, IfSome}
 use Rattle.ad_base.specs.declared.files.Fetch.{Fetch}
 use Rattle.ad_base.specs.declared.files.Fetch.TheVariants.{Failed, TooLarge, OutOfMemory}
 
@@ -13,9 +13,10 @@ pub record Outside : Type 0 where
   pub asked : Option (List (List ℕ))
   pub faults : ℕ
 
--- a count of faults rose, or stands at the end of its type
-abbrev pub Rose : ℕ → ℕ → Type 0
-Rose old new = (old < new) ⊎ (new + 1 ≡ 2 ^ 64)
+-- a sink, as far as it is told: the bytes taken so far, and how many faults there were
+pub record Output : Type 0 where
+  pub taken : Option (List ℕ)
+  pub faults : ℕ
 
 -- where bytes are told, they are these
 abbrev pub Tells : Option (List ℕ) → List ℕ → Type 0

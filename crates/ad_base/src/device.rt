@@ -1,7 +1,7 @@
 //! The device queue of a module.
 
 ghost use Rattle.std.specs.Prelude.{◌≡◌, ◌<◌, ◌≤◌, [], ◌∷◌, ◌++◌, length, slice_index};
-ghost use Rattle.ad_base.specs.Ring.{window};
+ghost use Rattle.ad_base.specs.Private.Ring.{window};
 
 use std::marker::Model;
 
@@ -18,7 +18,7 @@ pub struct Device {
 
 impl Model for Device {
     ghost use Rattle.std.specs.Prelude.{List, ℕ, ◌<◌, ◌≤◌};
-    ghost use Rattle.ad_base.specs.Ring.{window};
+    ghost use Rattle.ad_base.specs.Private.Ring.{window};
 
     ghost Value = { List ℕ };
 

@@ -1,7 +1,8 @@
 //! Files that are read by name.
 
 ghost use Rattle.std.specs.Prelude.{◌≡◌, ◌≢◌, ◌≤◌, ◌<◌, ◌++◌, length, List, ℕ, Some, Err, OnOk, IfSome};
-ghost use Rattle.ad_base.specs.Outside.{Outside, Rose, Tells, asked_after};
+ghost use Rattle.ad_base.specs.Count.{Rose};
+ghost use Rattle.ad_base.specs.Outside.{Outside, Tells, asked_after};
 
 use crate::layout::FILE_BYTES;
 use std::alloc::Global;
@@ -33,7 +34,6 @@ pub trait Files {
             → Rose (outside self.old).faults (outside self.new).faults }
         ensures no_fault { result ≢ Err Fetch.Failed
             → (outside self.new).faults ≡ (outside self.old).faults }
-        ensures counts { (outside self.old).faults ≤ (outside self.new).faults }
         ensures asked { IfSome (outside self.old).asked
             (λ names. (outside self.new).asked ≡ Some (asked_after result names name.now)) }
         ensures same { (outside self.new).told ≡ (outside self.old).told };

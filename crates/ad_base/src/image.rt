@@ -1,8 +1,15 @@
 //! A linked module, before it has a place.
 
+ghost use Rattle.std.specs.Prelude.{◌≡◌, ◌+◌, ◌≤◌, length, IfOk};
+ghost use Rattle.ad_base.specs.Image.{IsWhole, text_image};
+ghost use Rattle.ad_base.specs.Place.{IsModulePlace};
+
+use crate::layout::{PAGE_BYTES, STUB_PAGES, TABLE_PAGES};
+use crate::memory::OutOfMemory;
 use crate::name::Name;
 use crate::place::Place;
 use crate::sequence::Sequence;
+use std::alloc::Global;
 
 /// A word of the local area.
 #[derive(Clone, Copy, Debug, PartialEq, Eq)]
@@ -48,4 +55,43 @@ pub struct Image {
     /// Where the immovable part lies.
     pub fixed: Place,
     pub exports: Sequence<Export>,
+}
+
+/// Bytes of the stubs of a part.
+const STUB_BYTES: u64 = STUB_PAGES as u64 * PAGE_BYTES;
+
+impl Image {
+    /// The image of a page of text and nothing else, which is filled up with zeros. The immovable part, the stubs and
+    /// the fixed table, lies at this place. It fails for want of memory alone.
+    pub fn of_text(
+        alloc: Global,
+        text: Vec<u8>,
+        exports: Sequence<Export>,
+        fixed: Place,
+    ) -> Result<Image, OutOfMemory>
+        requires { length text.items ≤ PAGE_BYTES }
+        ensures image { IfOk result (λ image. image ≡ text_image text.items exports fixed) }
+        ensures whole { IsModulePlace fixed → fixed.pages ≡ STUB_PAGES + TABLE_PAGES → IfOk result IsWhole }
+    {
+        let mut code = text;
+        code.resize((PAGE_BYTES + STUB_BYTES) as usize, 0)?;
+        let mut fixed_code = Vec::new(alloc);
+        fixed_code.resize(STUB_BYTES as usize, 0)?;
+        Ok(Image {
+            text_pages: 1,
+            read_pages: 0,
+            data_pages: 0,
+            code: Sequence::of(code),
+            cells: Sequence::of(Vec::new(alloc)),
+            writable: Sequence::of(Vec::new(alloc)),
+            table: Sequence::of(Vec::new(alloc)),
+            fixed_text_pages: 0,
+            fixed_read_pages: 0,
+            fixed_data_pages: 0,
+            fixed_code: Sequence::of(fixed_code),
+            fixed_data: Sequence::of(Vec::new(alloc)),
+            fixed,
+            exports,
+        })
+    }
 }

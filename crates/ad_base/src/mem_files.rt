@@ -72,7 +72,8 @@ impl MemFiles {
 
 impl Files for MemFiles {
     ghost use Rattle.std.specs.Prelude.{◌≡◌, ◌≢◌, ◌≤◌, ◌<◌, ◌++◌, length, List, ℕ, Some, Err, OnOk, IfSome};
-    ghost use Rattle.ad_base.specs.Outside.{Rose, Tells, asked_after};
+    ghost use Rattle.ad_base.specs.Count.{Rose};
+    ghost use Rattle.ad_base.specs.Outside.{Tells, asked_after};
     ghost use Rattle.ad_base.specs.Memory.{FetchAnswers, after_fetch, bytes_of};
 
     ghost outside = { λ m. record { told = bytes_of m.files; asked = Some m.asked; faults = m.faults } };
@@ -86,7 +87,6 @@ impl Files for MemFiles {
             → IfSome (bytes_of self.old.files name.now) (λ file. FILE_BYTES < length file) }
         ensures failed { result ≡ Err Fetch.Failed → Rose self.old.faults self.new.faults }
         ensures no_fault { result ≢ Err Fetch.Failed → self.new.faults ≡ self.old.faults }
-        ensures counts { self.old.faults ≤ self.new.faults }
         ensures asked { IfSome (Some self.old.asked)
             (λ names. Some self.new.asked ≡ Some (asked_after result names name.now)) }
         ensures same { bytes_of self.new.files ≡ bytes_of self.old.files }
@@ -99,6 +99,7 @@ impl Files for MemFiles {
 impl MemFiles {
     ghost use Rattle.std.specs.Prelude.{◌≤◌, ◌≢◌, ◌⊎◌};
     ghost use Rattle.ad_base.specs.Memory.{FetchAnswers, after_fetch, bytes_of};
+    ghost use Rattle.ad_base.specs.Count.{Rose};
 
     /// What the next call answers, before it counts.
     fn answer(&self, name: &str, into: &mut Vec<u8>) -> Result<(), Fetch>
@@ -126,7 +127,7 @@ impl MemFiles {
     fn count(&mut self, alloc: Global, name: &str, answer: Result<(), Fetch>) -> Result<(), Fetch>
         ensures answer { (result ≡ answer) ⊎ (result ≡ Err Fetch.OutOfMemory) }
         ensures after { self.new ≡ after_fetch self.old result name.now }
-        ensures counts { self.old.faults ≤ self.new.faults }
+        ensures failed { result ≡ Err Fetch.Failed → Rose self.old.faults self.new.faults }
     {
         self.calls = self.calls.saturating_add(1);
         if answer == Err(Fetch::OutOfMemory) || self.keep(alloc, name).is_err() {

@@ -70,12 +70,10 @@ impl MemSink {
 impl Sink for MemSink {
     ghost use Rattle.std.specs.Prelude.{◌≡◌, ◌≤◌, ◌<◌, length, Some, OnErr, IfOk};
     ghost use Rattle.std.specs.Io.KnownBytes.{WriteAppends};
-    ghost use Rattle.ad_base.specs.Outside.{Rose};
+    ghost use Rattle.ad_base.specs.Count.{Rose};
     ghost use Rattle.ad_base.specs.Memory.{WriteAnswers, after_write};
 
-    ghost taken = { λ s. Some s.taken };
-
-    ghost faults = { λ s. s.faults };
+    ghost output = { λ s. record { taken = Some s.taken; faults = s.faults } };
 
     fn write(&mut self, piece: &[u8]) -> Result<usize, Failed>
         requires { 0 < length piece.now }
@@ -85,7 +83,6 @@ impl Sink for MemSink {
         ensures at_most { IfOk result (λ n. n ≤ length piece.now) }
         ensures bytes { WriteAppends (Some self.old.taken) (Some self.new.taken) result piece.now }
         ensures failed { OnErr result (Rose self.old.faults self.new.faults) }
-        ensures counts { self.old.faults ≤ self.new.faults }
     {
         self.calls = self.calls.saturating_add(1);
         if self.room == 0 || has_number(self.fail.as_slice(), self.calls) {

@@ -16,17 +16,15 @@ pub struct OutSink<W> {
 impl<W: io::Write> OutSink<W> {
     /// A sink that writes here, with no fault so far.
     pub fn new(writer: W) -> OutSink<W>
-        ensures taken { ⟦<OutSink<W> as Sink>⟧.taken result ≡ W.contents writer }
-        ensures faults { ⟦<OutSink<W> as Sink>⟧.faults result ≡ 0 }
+        ensures taken { (⟦<OutSink<W> as Sink>⟧.output result).taken ≡ W.contents writer }
+        ensures faults { (⟦<OutSink<W> as Sink>⟧.output result).faults ≡ 0 }
     {
         OutSink { writer, faults: 0 }
     }
 }
 
 impl<W: io::Write> Sink for OutSink<W> {
-    ghost taken = { λ s. W.contents s.writer };
-
-    ghost faults = { λ s. s.faults };
+    ghost output = { λ s. record { taken = W.contents s.writer; faults = s.faults } };
 
     fn write(&mut self, piece: &[u8]) -> Result<usize, Failed> {
         match self.writer.write(piece) {

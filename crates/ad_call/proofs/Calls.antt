@@ -10,7 +10,7 @@ use Rattle.ad_base.specs.declared.place.Place.{Place}
 use Rattle.ad_base.specs.Book.{Contents}
 use Rattle.ad_base.specs.Place.{base_of}
 use Rattle.ad_core.specs.Segments.{bytes_of_role, is_data, is_fixed_data, sizes}
-use Rattle.ad_core.specs.Plain.{Outcome, plain_call, at_start}
+use Rattle.ad_core.specs.Plain.{PlainOutcome, plain_call, at_start}
 use Rattle.ad_core.specs.Image.{segments_of, fresh_stack}
 use Rattle.ad_core.specs.Turn.{export_offset}
 use Rattle.ad_call.specs.declared.call.Call.{Call}
@@ -30,7 +30,7 @@ pub record IsGiven (image : Image) (book : Contents) (c : Call) (entry sp : ℕ)
   pub device_is : device ≡ book.device
 
 -- what the code hands to the machine
-abbrev pub ran_on : Image → ℕ → Call → List ℕ → ℕ → ℕ → List ℕ → List ℕ → List ℕ → List ℕ → Outcome
+abbrev pub ran_on : Image → ℕ → Call → List ℕ → ℕ → ℕ → List ℕ → List ℕ → List ℕ → List ℕ → PlainOutcome
 ran_on image fuel c args entry sp notes writable fixed device = plain_call fuel entry args sp (at_start (segments_of image c.under c.stack fresh_stack fixed writable) notes device)
 
 module _ (image : Image) (fuel : ℕ) (book : Contents) (c : Call) (args : List ℕ) (entry sp : ℕ) (notes writable fixed device : List ℕ) (given : IsGiven image book c entry sp notes writable fixed device) where
@@ -55,10 +55,10 @@ module _ (image : Image) (fuel : ℕ) (book : Contents) (c : Call) (args : List 
     call_made l =
         let o = outcome_of image fuel book c args in
         let same = same_run in
-        let ended = l.end_is ∙ ap (λ (r : Outcome). r.end) same in
-        let noted = l.notes_are ∙ ap (λ (r : Outcome). r.memory.notes) same in
-        let segments = l.segments ∙ ap (λ (r : Outcome). r.memory.segments) same in
-        let queued = l.queue ∙ ap (λ (r : Outcome). r.memory.queue) same in
+        let ended = l.end_is ∙ ap (λ (r : PlainOutcome). r.end) same in
+        let noted = l.notes_are ∙ ap (λ (r : PlainOutcome). r.memory.notes) same in
+        let segments = l.segments ∙ ap (λ (r : PlainOutcome). r.memory.segments) same in
+        let queued = l.queue ∙ ap (λ (r : PlainOutcome). r.memory.queue) same in
         let copied = l.copied in
         let made_entry : Entry = record { line = c.line; worker = c.worker; export = c.export; args = copy; under = c.under; stack = c.stack; notes = made; end = end } in
         let is : made_entry ≡ entry_of c args o = λ j. record { line = c.line; worker = c.worker; export = c.export; args = copied j; under = c.under; stack = c.stack; notes = noted j; end = ended j } in

@@ -3,7 +3,7 @@ use Rattle.std.specs.Prelude.{◌≡◌, ℕ, List, [], ◌∷◌, ◌++◌, len
 use Rattle.ad_base.specs.declared.book.Entry.{Entry}
 use Rattle.ad_base.specs.declared.image.Image.{Image}
 use Rattle.ad_base.specs.Book.{Contents}
-use Rattle.ad_core.specs.Plain.{Outcome}
+use Rattle.ad_core.specs.Plain.{PlainOutcome}
 use Rattle.ad_core.specs.Turn.{export_offset, plain, fixed_data_of, writable_of}
 use Rattle.ad_call.specs.declared.call.Call.{Call}
 
@@ -13,11 +13,11 @@ pub record HasData (image : Image) (writable fixed : List ℕ) : Type 0 where
   pub immovable : length fixed ≡ length image.fixed_data
 
 -- the plain machine's run of a call
-unfoldable pub outcome_of : Image → ℕ → Contents → Call → List ℕ → Outcome
+unfoldable pub outcome_of : Image → ℕ → Contents → Call → List ℕ → PlainOutcome
 outcome_of i fuel book c args = plain i fuel book c.under c.stack (export_offset i c.export) args
 
 -- the entry of a call that came to this
-abbrev pub entry_of : Call → List ℕ → Outcome → Entry
+abbrev pub entry_of : Call → List ℕ → PlainOutcome → Entry
 entry_of c args o = record {
   line = c.line;
   worker = c.worker;
@@ -30,7 +30,7 @@ entry_of c args o = record {
 }
 
 -- the book once a call came to this: its data and queue, and one entry more
-abbrev pub with_outcome : Contents → Call → List ℕ → Outcome → Contents
+abbrev pub with_outcome : Contents → Call → List ℕ → PlainOutcome → Contents
 with_outcome book c args o = record {
   writable = writable_of o;
   fixed = fixed_data_of o;

@@ -53,13 +53,13 @@ const FIXED: Place = Place {
     frame: 0,
 };
 
-/// A text page that begins with these words, and the stub page.
-fn code(alloc: Global, words: [u32; 2]) -> Result<Sequence<u8>, OutOfMemory>
-    ensures { IfOk result (λ code. length code ≡ 8192) }
+/// The bytes of these words.
+fn text(alloc: Global, words: [u32; 2]) -> Result<Vec<u8>, OutOfMemory>
+    ensures { IfOk result (λ text. length text.items ≡ 8) }
 {
-    let mut code = Vec::from_elem(alloc, 0, 8192)?;
-    LittleEndian::write_u32_into(&words, &mut code[..8]);
-    Ok(Sequence::of(code))
+    let mut text = Vec::from_elem(alloc, 0, 8)?;
+    LittleEndian::write_u32_into(&words, &mut text);
+    Ok(text)
 }
 
 /// Exports of the second word, and of the first.
@@ -85,23 +85,7 @@ fn image(alloc: Global, words: [u32; 2]) -> Result<Image, OutOfMemory>
     ensures writable { IfOk result (λ i. i.writable ≡ []) }
     ensures fixed { IfOk result (λ i. i.fixed_data ≡ []) }
 {
-    let fixed_code = Vec::from_elem(alloc, 0, 4096)?;
-    Ok(Image {
-        text_pages: 1,
-        read_pages: 0,
-        data_pages: 0,
-        code: code(alloc, words)?,
-        cells: Sequence::of(Vec::new(alloc)),
-        writable: Sequence::of(Vec::new(alloc)),
-        table: Sequence::of(Vec::new(alloc)),
-        fixed_text_pages: 0,
-        fixed_read_pages: 0,
-        fixed_data_pages: 0,
-        fixed_code: Sequence::of(fixed_code),
-        fixed_data: Sequence::of(Vec::new(alloc)),
-        fixed: FIXED,
-        exports: exports(alloc)?,
-    })
+    Image::of_text(alloc, text(alloc, words)?, exports(alloc)?, FIXED)
 }
 
 #[test]

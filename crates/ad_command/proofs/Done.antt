@@ -1,32 +1,32 @@
 -- What a run of a script leaves, from the laws of line runs.
-use Rattle.std.proofs.Common.{◌≡◌, List, [], ◌∷◌, ◌++◌, Ok, length, map, sym, ap, subst, ◌∙◌, arith}
+use Rattle.std.proofs.Common.{◌≡◌, ℕ, zero, suc, Bool, true, false, cond, List, [], ◌∷◌, ◌++◌, Some, Ok, length, map, filter, slice_get, refl, sym, ap, subst, ◌∙◌, arith}
 use Rattle.std.specs.List.{All, AllZip}
-use Rattle.std.proofs.lemmas.List.Elements.{All-head, All-map, All-same, All-tail}
-use Rattle.ad_base.specs.declared.book.Book.{Book}
+use Rattle.std.proofs.lemmas.List.Elements.{All-head, All-same, All-tail}
+use Rattle.std.proofs.lemmas.Simd.{map-map}
 use Rattle.ad_base.specs.declared.image.Image.{Image}
-use Rattle.ad_base.specs.declared.ledger.Moved.{Moved}
 use Rattle.ad_base.specs.declared.ledger.Row.{Row}
-use Rattle.ad_base.specs.Book.{Contents, contents_of}
+use Rattle.ad_base.specs.Book.{Contents}
 use Rattle.ad_base.specs.Ledger.{IsLedger, IsUnmappedOnce, made_mappings}
 use Rattle.ad_core.specs.Turn.{IsLawful}
 use Rattle.ad_lines.specs.declared.ready.ReadyStep.{ReadyStep}
-use Rattle.ad_lines.specs.LineLaws.{AreSteps, run_of_seed}
+use Rattle.ad_lines.specs.LineLaws.{AreSteps, calls_of_module, move_request, run_of_seed, step_of}
 use Rattle.ad_lines.specs.LineRun.{ModuleState, RunState}
-use Rattle.ad_lines.specs.Opening.{AreLoaded, opening_drawn, opening_mappings}
+use Rattle.ad_lines.specs.Opening.{AreLoaded}
 use Rattle.ad_lines.specs.Ready.{ready_steps}
-use Rattle.ad_lines.proofs.Drawing.{moves-rise}
-use Rattle.ad_lines.proofs.RunLaws.{books-lawful, calls-rise, clear-replies, images-stay, rows-are-ledger, unmapped-once}
+use Rattle.ad_lines.proofs.Drawing.{moves-made, moves-rise, places-are}
+use Rattle.ad_lines.proofs.RunLaws.{books-lawful, calls-made, clear-replies, images-stay, rows-are-ledger, unmapped-once}
+use Rattle.ad_lines.proofs.Stale.{sound-run}
 use Rattle.ad_relate.specs.ClearHistory.{RepliesAsReplayed}
-use Rattle.ad_report.specs.Report.{AreCallsInOrder, AreMovesInOrder}
+use Rattle.ad_report.specs.Report.{AreMovesInOrder}
 use Rattle.ad_script.specs.Script.{IsInRange}
 use Rattle.ad_command.specs.Command.{Job}
-use Rattle.ad_command.specs.Ending.{IsDone, run_of_job}
+use Rattle.ad_command.specs.Ending.{Ending, IsLineRun, IsSoundRun, chosen_places, is_by, opening_of_job, run_of_job, unframed}
 use Rattle.ad_command.proofs.Jobs.{are-steps}
 
 -- what holds of each module's image and book holds of the images and the books, side by side
-zipped : (P : Image → Contents → Type 0) (ms : List ModuleState) (images : List Image) (books : List Book)
-    → map (λ (m : ModuleState). m.image) ms ≡ images → map contents_of books ≡ map (λ (m : ModuleState). m.book) ms
-    → All (λ (m : ModuleState). P m.image m.book) ms → AllZip (λ (i : Image) (b : Book). P i (contents_of b)) images books
+zipped : (P : Image → Contents → Type 0) (ms : List ModuleState) (images : List Image) (books : List Contents)
+    → map (λ (m : ModuleState). m.image) ms ≡ images → books ≡ map (λ (m : ModuleState). m.book) ms
+    → All (λ (m : ModuleState). P m.image m.book) ms → AllZip P images books
 zipped P [] [] [] same books h = tt
 zipped P [] [] (b ∷ bs) same books h = absurd cc
 zipped P [] (i ∷ is) books same eq h = absurd cc
@@ -34,64 +34,82 @@ zipped P (m ∷ ms) [] books same eq h = absurd cc
 zipped P (m ∷ ms) (i ∷ is) [] same eq h = absurd cc
 zipped P (m ∷ ms) (i ∷ is) (b ∷ bs) same eq h =
     let image : m.image ≡ i = cc in
-    let book : m.book ≡ contents_of b = cc in
+    let book : m.book ≡ b = cc in
     let others : map (λ (x : ModuleState). x.image) ms ≡ is = cc in
-    let rest : map contents_of bs ≡ map (λ (x : ModuleState). x.book) ms = cc in
+    let rest : bs ≡ map (λ (x : ModuleState). x.book) ms = cc in
     let Q : ModuleState → Type 0 = λ x. P x.image x.book in
     let here : P m.image m.book = All-head Q m ms h in
     (subst (P i) book (subst (λ x. P x m.book) image here), zipped P ms is bs others rest (All-tail Q m ms h))
 
-module _ (j : Job) (loaded : AreLoaded j.seed j.script.workers j.images) (are : AreSteps j.images j.script.workers j.steps) (books : List Book) (moves : List Moved) (rows : List Row)
-    (ran : map contents_of books ≡ map (λ (m : ModuleState). m.book) (run_of_job j).modules)
-    (moved : moves ≡ (run_of_job j).placement.moves)
-    (mapped : rows ≡ (run_of_job j).placement.mappings) where
-  pub is-done : IsDone j books moves rows
-  is-done =
+-- the book of a number is that of a module
+book-there : (ms : List ModuleState) (number : ℕ) (b : Contents) → slice_get (map (λ (m : ModuleState). m.book) ms) number ≡ Some b → (m : ModuleState) × (slice_get ms number ≡ Some m) × (m.book ≡ b)
+book-there [] number b e = absurd cc
+book-there (m ∷ ms) zero b e = let same : m.book ≡ b = cc in (m, refl, same)
+book-there (m ∷ ms) (suc number) b e = book-there ms number b e
+
+-- the calls of one worker, seen through a view that tells the worker
+of-worker : {A B : Type 0} (view : A → B) (w : B → Bool) (xs : List A) → map view (filter (λ x. w (view x)) xs) ≡ filter w (map view xs)
+of-worker view w [] = refl
+of-worker view w (x ∷ xs) =
+    let later = of-worker view w xs in
+    elim (w (view x)) as (λ b. map view (cond b (x ∷ filter (λ y. w (view y)) xs) (filter (λ y. w (view y)) xs)) ≡ cond b (view x ∷ filter w (map view xs)) (filter w (map view xs))) [
+      | true ↦ ap (λ ys. view x ∷ ys) later
+      | false ↦ later
+    ]
+
+-- what holds of a line run, where the images were loaded and the steps may be run
+module _ (j : Job) (o : Ending) (loaded : AreLoaded j.seed j.script.workers j.images) (are : AreSteps j.images j.script.workers j.steps) (run : IsLineRun j o) where
+  is-sound : IsSoundRun (opening_of_job j) j o
+  is-sound =
       let stay = images-stay j.seed j.script.workers j.fuel j.images j.steps loaded are in
       let ms = (run_of_job j).modules in
       let all = rows-are-ledger j.seed j.script.workers j.fuel j.images j.steps loaded are in
-      let first = (opening_mappings j.script.workers (opening_drawn j.seed j.script.workers j.images).places) in
+      let first = opening_of_job j in
       record {
-        ran = ran;
-        moved = moved;
-        mapped = mapped;
-        lawful = zipped (λ i b. IsLawful i j.fuel b) ms j.images books stay ran (books-lawful j.seed j.script.workers j.fuel j.images j.steps loaded are);
-        clear = zipped (λ i b. RepliesAsReplayed i j.fuel b.entries) ms j.images books stay ran (clear-replies j.seed j.script.workers j.fuel j.images j.steps loaded are);
-        ledger = subst (λ rs. IsLedger (first ++ made_mappings moves) rs) (sym mapped) (subst (λ xs. IsLedger (first ++ made_mappings xs) (run_of_job j).placement.mappings) (sym moved) all);
-        unmapped = All-same IsUnmappedOnce rows (run_of_job j).placement.mappings mapped (unmapped-once j.seed j.script.workers j.fuel j.images j.steps loaded are);
+        lawful = zipped (λ i b. IsLawful i j.fuel b) ms j.images o.books stay run.ran (books-lawful j.seed j.script.workers j.fuel j.images j.steps loaded are);
+        calls = λ number worker b e.
+            let m = book-there ms number b (sym (ap (λ bs. slice_get bs number) run.ran) ∙ e) in
+            let made = calls-made j.seed j.script.workers j.fuel j.images j.steps loaded are number m.0 m.1 in
+            let same : map (step_of number) b.entries ≡ calls_of_module number j.steps = sym (ap (λ (x : Contents). map (step_of number) x.entries) m.2) ∙ made in
+            of-worker (step_of number) (is_by worker) b.entries ∙ ap (filter (is_by worker)) same;
+        moves = ap (map move_request) run.moved ∙ moves-made j.seed j.script.workers j.fuel j.images j.steps loaded are;
+        places =
+            let rows = ap (map (λ (r : Row). unframed r.place)) run.mapped in
+            rows ∙ sym (map-map unframed (λ (r : Row). r.place) (run_of_job j).placement.rows)
+            ∙ ap (map unframed) ((sound-run j.seed j.script.workers j.fuel j.images loaded j.steps are).sound.places ∙ places-are j.seed j.script.workers j.fuel j.images j.steps loaded are ∙ ap (chosen_places j) (sym run.moved));
+        clear = zipped (λ i b. RepliesAsReplayed i j.fuel b.entries) ms j.images o.books stay run.ran (clear-replies j.seed j.script.workers j.fuel j.images j.steps loaded are);
+        ledger = subst (λ rs. IsLedger (first ++ made_mappings o.moves) rs) (sym run.mapped) (subst (λ xs. IsLedger (first ++ made_mappings xs) (run_of_job j).placement.rows) (sym run.moved) all);
+        unmapped = All-same IsUnmappedOnce o.rows (run_of_job j).placement.rows run.mapped (unmapped-once j.seed j.script.workers j.fuel j.images j.steps loaded are);
       }
 
-  -- calls and moves come in order of their lines
-  pub calls-in-order : All AreCallsInOrder (map contents_of books)
-  calls-in-order =
-      All-same AreCallsInOrder (map contents_of books) (map (λ (m : ModuleState). m.book) (run_of_job j).modules) ran
-      (All-map AreCallsInOrder (λ (m : ModuleState). m.book) (run_of_job j).modules (calls-rise j.seed j.script.workers j.fuel j.images j.steps loaded are))
-
-  pub moves-in-order : AreMovesInOrder moves
-  moves-in-order = subst AreMovesInOrder (sym moved) (moves-rise j.seed j.script.workers j.fuel j.images j.steps loaded are)
+  -- the moves come in order of their lines
+  moves-in-order : AreMovesInOrder o.moves
+  moves-in-order = subst AreMovesInOrder (sym run.moved) (moves-rise j.seed j.script.workers j.fuel j.images j.steps loaded are)
 
 -- a run that was made, with what its report asks for
-pub record IsRun (j : Job) (books : List Book) (moves : List Moved) (rows : List Row) : Type 0 where
-  pub done : IsDone j books moves rows
-  pub calls : All AreCallsInOrder (map contents_of books)
-  pub rise : AreMovesInOrder moves
+pub record IsRun (j : Job) (o : Ending) : Type 0 where
+  pub line : IsLineRun j o
+  pub sound : IsSoundRun (opening_of_job j) j o
+  pub rise : AreMovesInOrder o.moves
 
 -- steps and images as they were handed on are those of the job
-pub is-run : (j : Job) {viewed : List Image} {taken : List ReadyStep} (books : List Book) (moves : List Moved) (rows : List Row)
+pub is-run : (j : Job) {viewed : List Image} {taken : List ReadyStep} (o : Ending)
     → IsInRange j.script → AreLoaded j.seed j.script.workers j.images → length j.script.loads ≡ length j.images
     → viewed ≡ j.images → taken ≡ j.steps → ready_steps viewed j.script.steps ≡ Ok j.steps
-    → map contents_of books ≡ map (λ (m : ModuleState). m.book) (run_of_seed j.seed j.script.workers j.images j.fuel taken).modules
-    → moves ≡ (run_of_seed j.seed j.script.workers j.images j.fuel taken).placement.moves
-    → rows ≡ (run_of_seed j.seed j.script.workers j.images j.fuel taken).placement.mappings
-    → IsRun j books moves rows
-is-run j books moves rows range loaded each viewed taken ready ran moved mapped =
+    → o.books ≡ map (λ (m : ModuleState). m.book) (run_of_seed j.seed j.script.workers j.images j.fuel taken).modules
+    → o.moves ≡ (run_of_seed j.seed j.script.workers j.images j.fuel taken).placement.moves
+    → o.rows ≡ (run_of_seed j.seed j.script.workers j.images j.fuel taken).placement.rows
+    → IsRun j o
+is-run j o range loaded each viewed taken ready ran moved mapped =
     let run : List ReadyStep → RunState = run_of_seed j.seed j.script.workers j.images j.fuel in
     let are = are-steps j.images j.script j.steps range (omega (arith, each)) (ap (λ is. ready_steps is j.script.steps) (sym viewed) ∙ ready) in
-    let books_are = ran ∙ ap (λ steps. map (λ (m : ModuleState). m.book) (run steps).modules) taken in
-    let moves_are = moved ∙ ap (λ steps. (run steps).placement.moves) taken in
-    let rows_are = mapped ∙ ap (λ steps. (run steps).placement.mappings) taken in
+    let line : IsLineRun j o = record {
+      ran = ran ∙ ap (λ steps. map (λ (m : ModuleState). m.book) (run steps).modules) taken;
+      moved = moved ∙ ap (λ steps. (run steps).placement.moves) taken;
+      mapped = mapped ∙ ap (λ steps. (run steps).placement.rows) taken;
+    } in
     record {
-      done = is-done j loaded are books moves rows books_are moves_are rows_are;
-      calls = calls-in-order j loaded are books moves rows books_are moves_are rows_are;
-      rise = moves-in-order j loaded are books moves rows books_are moves_are rows_are;
+      line = line;
+      sound = is-sound j o loaded are line;
+      rise = moves-in-order j o loaded are line;
     }

@@ -1,7 +1,9 @@
 pub mod Answering
 pub mod Chains
 pub mod Commands
+pub mod Complete
 pub mod Done
 pub mod FirstRefusal
 pub mod Jobs
 pub mod Loads
+pub mod Worked

@@ -13,7 +13,8 @@ use Rattle.ad_base.specs.Place.{IsModulePlace}
 use Rattle.ad_base.specs.declared.image.Image.{Image}
 use Rattle.ad_base.specs.declared.layout.TheConstants.{FILE_BYTES, MAPPINGS, MODULES, WORKERS}
 use Rattle.ad_base.specs.declared.ledger.Kind.TheVariants.{Code, Fixed}
-use Rattle.ad_base.specs.Outside.{Outside, Rose, Tells, Told}
+use Rattle.ad_base.specs.Count.{Rose}
+use Rattle.ad_base.specs.Outside.{Outside, Tells, Told}
 use Rattle.ad_form.specs.declared.image.TheConstants.{FIXED_PAGES, MOVABLE_PAGES}
 use Rattle.ad_form.specs.declared.read.Module.{Module}
 use Rattle.ad_form.specs.FormImage.{form_export, form_image}
@@ -29,17 +30,17 @@ use Rattle.ad_script.specs.declared.script.Script.{Script}
 use Rattle.ad_script.specs.Script.{IsScript}
 use Rattle.ad_command.specs.declared.trouble.Trouble.{Trouble}
 use Rattle.ad_command.specs.declared.trouble.Trouble.TheVariants.{BadScript, Form, Memory, Read, TooLarge}
-use Rattle.ad_command.specs.Chain.{Chain, Comes, Done, ModuleFile, Parse, Refuse, ScriptText, Serves, ◌>>=◌, each_behind, given}
-use Rattle.ad_command.specs.Loading.{file_of, image_of, images_of, script_of}
-use Rattle.ad_command.proofs.Chains.{memory, serves-behind, serves-done, serves-memory, serves-parse, serves-refuse, serves-refused}
+use Rattle.ad_command.specs.Chain.{Chain, Done, Found, IsFound, IsWrong, Judge, MayEnd, ModuleFile, Question, Refuse, ScriptText, Serves, Wrong, each_in_turn, judged}
+use Rattle.ad_command.specs.Loading.{file_of, loaded_image, loaded_images, module_of, placed_image, script_of}
+use Rattle.ad_command.proofs.Chains.{memory, serves-behind, serves-done, serves-memory, serves-judge, serves-refuse, serves-refused}
 
 -- a file that may be so long and isn't too long, and one that is
 short-comes : (n : ℕ) (told : Told) (old new : ℕ) (name file : List ℕ) → length file ≤ n → new ≡ old
-    → Comes told old new (if nat_lt n (length file) then Refuse (TooLarge name) else Done file) [] (Ok file)
+    → MayEnd told old new (if nat_lt n (length file) then Refuse (TooLarge name) else Done file) [] (Ok file)
 short-comes n told old new name file short same = rw (le-ltb n (length file) short) (refl, same, inl refl)
 
 long-comes : (n : ℕ) (told : Told) (old new : ℕ) (name file : List ℕ) → n < length file → new ≡ old
-    → Comes told old new (if nat_lt n (length file) then Refuse (TooLarge name) else Done file) [] (Err (TooLarge name))
+    → MayEnd told old new (if nat_lt n (length file) then Refuse (TooLarge name) else Done file) [] (Err (TooLarge name))
 long-comes n told old new name file long same = rw (lt-ltb n (length file) long) (refl, same, inl refl)
 
 -- some file is longer, whatever is told
@@ -53,7 +54,7 @@ pub file-read : (old new : Outside) (name file : List ℕ) → Tells (old.told n
 unfolding file_of
 file-read old new name file tells short faults asked same = record {
   names = name ∷ [];
-  comes = inr (inr (file, [], refl, tells, short-comes FILE_BYTES old.told old.faults new.faults name file short faults));
+  ends = inr (inr (file, [], refl, tells, short-comes FILE_BYTES old.told old.faults new.faults name file short faults));
   asked = asked;
   same = same;
 }
@@ -65,7 +66,7 @@ file-long old new name long faults asked same =
     let file = some-longer FILE_BYTES (old.told name) long in
     record {
       names = name ∷ [];
-      comes = inr (inr (file.0, [], refl, file.1, long-comes FILE_BYTES old.told old.faults new.faults name file.0 file.2 faults));
+      ends = inr (inr (file.0, [], refl, file.1, long-comes FILE_BYTES old.told old.faults new.faults name file.0 file.2 faults));
       asked = asked;
       same = same;
     }
@@ -73,7 +74,7 @@ file-long old new name long faults asked same =
 pub file-failed : (old new : Outside) (name : List ℕ) → Rose old.faults new.faults
     → IfSome old.asked (λ names. new.asked ≡ Some (names ++ name ∷ [])) → new.told ≡ old.told → Serves old new (file_of name) (Err (Read name))
 unfolding file_of
-file-failed old new name rose asked same = record { names = name ∷ []; comes = inr (inl (refl, rose, refl)); asked = asked; same = same }
+file-failed old new name rose asked same = record { names = name ∷ []; ends = inr (inl (refl, rose, refl)); asked = asked; same = same }
 
 asked-nothing : (old new : Option (List (List ℕ))) → IfSome old (λ names. new ≡ Some names) → IfSome old (λ names. new ≡ Some (names ++ []))
 asked-nothing None new h = tt
@@ -83,82 +84,94 @@ pub chain-wanting : {A : Type 0} (old new : Outside) (c : Chain A) → new.fault
     → IfSome old.asked (λ names. new.asked ≡ Some names) → new.told ≡ old.told → Serves old new c (Err Memory)
 chain-wanting old new c faults asked same = record {
   names = [];
-  comes = subst (λ n. Comes old.told old.faults n c [] (Err Memory)) (sym faults) (memory old.told old.faults c);
+  ends = subst (λ n. MayEnd old.told old.faults n c [] (Err Memory)) (sym faults) (memory old.told old.faults c);
   asked = asked-nothing old.asked new.asked asked;
   same = same;
 }
 
--- what a text that was read says, as a script or as a module
-script-parsed : (o : Outside) (text : List ℕ) (r : Result Script Trouble) → IfOk r (IsScript text)
-    → IfErr r (λ t. ((t ≡ BadScript) × ((s : Script) → IsScript text s → ⊥)) ⊎ (t ≡ Memory))
-    → Serves o o (Parse ScriptText text (given BadScript)) r
-script-parsed o text (Ok s) ok err = serves-parse o o ScriptText text (given BadScript) (Some s) (Ok s) ok (serves-done o s)
-script-parsed o text (Err t) ok (inl bad) =
-    rw (bad.0) (serves-parse o o ScriptText text (given BadScript) None (Err BadScript) bad.1 (serves-refuse o BadScript))
-script-parsed o text (Err t) ok (inr wanting) = rw wanting (serves-memory o (Parse ScriptText text (given BadScript)))
+-- what was found, and what is wrong
+found : (o : Outside) (q : Question) (trouble : Wrong q → Trouble) (v : Found q) → IsFound q v → Serves o o (Judge q (judged trouble)) (Ok v)
+found o q trouble v is = serves-judge o o q (judged trouble) (Ok v) (Ok v) is (serves-done o v)
 
-pub script-refused : (old new : Outside) (operand : List ℕ) (t : Trouble) → Serves old new (file_of operand) (Err t) → Serves old new (script_of operand) (Err t)
-unfolding script_of
-script-refused old new operand t first = serves-refused old new (file_of operand) (λ text. Parse ScriptText text (given BadScript)) t first
+amiss : (o : Outside) (q : Question) (trouble : Wrong q → Trouble) (wrong : Wrong q) → IsWrong q wrong → Serves o o (Judge q (judged trouble)) (Err (trouble wrong))
+amiss o q trouble wrong is = serves-judge o o q (judged trouble) (Err wrong) (Err (trouble wrong)) is (serves-refuse o (trouble wrong))
 
-pub script-read : (old new : Outside) (operand text : List ℕ) (r : Result Script Trouble) → Serves old new (file_of operand) (Ok text)
-    → IfOk r (IsScript text) → IfErr r (λ t. ((t ≡ BadScript) × ((s : Script) → IsScript text s → ⊥)) ⊎ (t ≡ Memory))
-    → Serves old new (script_of operand) r
-unfolding script_of
-script-read old new operand text r first ok err =
-    serves-behind old new new (file_of operand) (λ b. Parse ScriptText b (given BadScript)) text r first (script-parsed new text r ok err)
+-- the verdict on a file: there is one thing that may be wrong
+pub judged-so : (o : Outside) (q : Question) (trouble : Wrong q → Trouble) (wrong : Wrong q) (r : Result (Found q) Trouble)
+    → IfOk r (IsFound q) → IfErr r (λ t. ((t ≡ trouble wrong) × IsWrong q wrong) ⊎ (t ≡ Memory)) → Serves o o (Judge q (judged trouble)) r
+judged-so o q trouble wrong (Ok v) ok err = found o q trouble v ok
+judged-so o q trouble wrong (Err t) ok (inl bad) = rw (bad.0) (amiss o q trouble wrong bad.1)
+judged-so o q trouble wrong (Err t) ok (inr wanting) = rw wanting (serves-memory o (Judge q (judged trouble)))
+
+module _ (old new : Outside) (name : List ℕ) where
+  script-next : List ℕ → Chain Script
+  script-next text = Judge (ScriptText text) (judged (λ wrong. BadScript))
+
+  pub script-unread : (t : Trouble) → Serves old new (file_of name) (Err t) → Serves old new (script_of name) (Err t)
+  unfolding script_of script-next
+  script-unread t first = serves-refused old new (file_of name) script-next t first
+
+  pub script-read : (text : List ℕ) (r : Result Script Trouble) → Serves old new (file_of name) (Ok text)
+      → IfOk r (IsScript text) → IfErr r (λ t. ((t ≡ BadScript) × ((s : Script) → IsScript text s → ⊥)) ⊎ (t ≡ Memory))
+      → Serves old new (script_of name) r
+  unfolding script_of script-next
+  script-read text r first ok err = serves-behind old new new (file_of name) script-next text r first (judged-so new (ScriptText text) (λ wrong. BadScript) tt r ok err)
+
+  module-next : List ℕ → Chain Module
+  module-next file = Judge (ModuleFile file) (judged (λ wrong. Form name))
+
+  pub module-unread : (t : Trouble) → Serves old new (file_of name) (Err t) → Serves old new (module_of name) (Err t)
+  unfolding module_of module-next
+  module-unread t first = serves-refused old new (file_of name) module-next t first
+
+  pub module-read : (file : List ℕ) (r : Result Module Trouble) → Serves old new (file_of name) (Ok file)
+      → IfOk r (IsModule file) → IfErr r (λ t. ((t ≡ Form name) × ((m : Module) → IsModule file m → ⊥)) ⊎ (t ≡ Memory))
+      → Serves old new (module_of name) r
+  unfolding module_of module-next
+  module-read file r first ok err = serves-behind old new new (file_of name) module-next file r first (judged-so new (ModuleFile file) (λ wrong. Form name) tt r ok err)
+
+-- a module that was read is a text of whole words
+pub module-whole : (file : List ℕ) (r : Result Module Trouble) → IfOk r (IsModule file) → IfOk r (λ (m : Module). IsText m.text)
+module-whole file (Ok m) is = is.whole
+module-whole file (Err t) is = tt
 
 -- the image of a module
-module _ (seed workers : ℕ) (before : List Image) (l : Load) where
-  abbrev made : Module → Chain Image
-  made m = Done (form_image m (next_place (opening_drawn seed workers before) Fixed FIXED_PAGES))
+module _ (seed workers : ℕ) (before : List Image) (l : Load) (old new : Outside) where
+  pub image-refused : (t : Trouble) → Serves old new (module_of l.file) (Err t) → Serves old new (loaded_image module_of seed workers before l) (Err t)
+  unfolding loaded_image placed_image
+  image-refused t first = serves-refused old new (module_of l.file) (placed_image seed workers before) t first
 
-  abbrev parsed : List ℕ → Chain Image
-  parsed file = Parse ModuleFile file (λ m. given (Form l.file) m >>= made)
-
-  pub image-refused : (old new : Outside) (t : Trouble) → Serves old new (file_of l.file) (Err t) → Serves old new (image_of seed workers before l) (Err t)
-  unfolding image_of
-  image-refused old new t first = serves-refused old new (file_of l.file) parsed t first
-
-  pub image-unread : (old new : Outside) (file : List ℕ) (t : Trouble) → Serves old new (file_of l.file) (Ok file)
-      → ((t ≡ Form l.file) × ((m : Module) → IsModule file m → ⊥)) ⊎ (t ≡ Memory) → Serves old new (image_of seed workers before l) (Err t)
-  unfolding image_of
-  image-unread old new file t first (inl bad) =
-      rw (bad.0) (serves-behind old new new (file_of l.file) parsed file (Err (Form l.file)) first (serves-parse new new ModuleFile file (λ m. given (Form l.file) m >>= made) None (Err (Form l.file)) bad.1 (serves-refuse new (Form l.file))))
-  image-unread old new file t first (inr wanting) =
-      rw wanting (serves-behind old new new (file_of l.file) parsed file (Err Memory) first (serves-memory new (parsed file)))
-
-  pub image-made : (old new : Outside) (file : List ℕ) (m : Module) (i : Image) → Serves old new (file_of l.file) (Ok file) → IsModule file m
-      → i ≡ form_image m (next_place (opening_drawn seed workers before) Fixed FIXED_PAGES) → Serves old new (image_of seed workers before l) (Ok i)
-  unfolding image_of
-  image-made old new file m i first is same =
+  pub image-made : (m : Module) (i : Image) → Serves old new (module_of l.file) (Ok m)
+      → i ≡ form_image m (next_place (opening_drawn seed workers before) Fixed FIXED_PAGES) → Serves old new (loaded_image module_of seed workers before l) (Ok i)
+  unfolding loaded_image placed_image
+  image-made m i first same =
       let image : Image = form_image m (next_place (opening_drawn seed workers before) Fixed FIXED_PAGES) in
-      rw same (serves-behind old new new (file_of l.file) parsed file (Ok image) first (serves-parse new new ModuleFile file (λ o. given (Form l.file) o >>= made) (Some m) (Ok image) is (serves-done new image)))
+      rw same (serves-behind old new new (module_of l.file) (placed_image seed workers before) m (Ok image) first (serves-done new image))
 
-  pub image-wanting : (old new : Outside) (file : List ℕ) → Serves old new (file_of l.file) (Ok file) → Serves old new (image_of seed workers before l) (Err Memory)
-  unfolding image_of
-  image-wanting old new file first = serves-behind old new new (file_of l.file) parsed file (Err Memory) first (serves-memory new (parsed file))
+  pub image-wanting : (m : Module) → Serves old new (module_of l.file) (Ok m) → Serves old new (loaded_image module_of seed workers before l) (Err Memory)
+  unfolding loaded_image placed_image
+  image-wanting m first = serves-behind old new new (module_of l.file) (placed_image seed workers before) m (Err Memory) first (serves-memory new (placed_image seed workers before m))
 
 -- A chain of a step for each of a list, as far as it has come: what is left of it serves it all.
 pub record GoesOn {A B : Type 0} (f : List B → A → Chain B) (start now : Outside) (done : List B) (left all : List A) : Type 0 where
-  pub serves : (end : Outside) (r : Result (List B) Trouble) → Serves now end (each_behind f done left) r → Serves start end (each_behind f [] all) r
+  pub serves : (end : Outside) (r : Result (List B) Trouble) → Serves now end (each_in_turn f done left) r → Serves start end (each_in_turn f [] all) r
 
 module _ {A B : Type 0} (f : List B → A → Chain B) (start now : Outside) (done : List B) (all : List A) where
   pub goes-further : (new : Outside) (x : A) (left : List A) (y : B) → GoesOn f start now done (x ∷ left) all → Serves now new (f done x) (Ok y) → GoesOn f start new (done ++ y ∷ []) left all
-  unfolding each_behind
+  unfolding each_in_turn
   goes-further new x left y goes step = record {
-    serves = λ end r later. goes.serves end r (serves-behind now new end (f done x) (λ z. each_behind f (done ++ z ∷ []) left) y r step later);
+    serves = λ end r later. goes.serves end r (serves-behind now new end (f done x) (λ z. each_in_turn f (done ++ z ∷ []) left) y r step later);
   }
 
-  pub goes-wrong : (new : Outside) (x : A) (left : List A) (t : Trouble) → GoesOn f start now done (x ∷ left) all → Serves now new (f done x) (Err t) → Serves start new (each_behind f [] all) (Err t)
-  unfolding each_behind
-  goes-wrong new x left t goes step = goes.serves new (Err t) (serves-refused now new (f done x) (λ z. each_behind f (done ++ z ∷ []) left) t step)
+  pub goes-wrong : (new : Outside) (x : A) (left : List A) (t : Trouble) → GoesOn f start now done (x ∷ left) all → Serves now new (f done x) (Err t) → Serves start new (each_in_turn f [] all) (Err t)
+  unfolding each_in_turn
+  goes-wrong new x left t goes step = goes.serves new (Err t) (serves-refused now new (f done x) (λ z. each_in_turn f (done ++ z ∷ []) left) t step)
 
-  pub goes-wanting : (left : List A) → GoesOn f start now done left all → Serves start now (each_behind f [] all) (Err Memory)
-  goes-wanting left goes = goes.serves now (Err Memory) (serves-memory now (each_behind f done left))
+  pub goes-wanting : (left : List A) → GoesOn f start now done left all → Serves start now (each_in_turn f [] all) (Err Memory)
+  goes-wanting left goes = goes.serves now (Err Memory) (serves-memory now (each_in_turn f done left))
 
-  pub goes-done : GoesOn f start now done [] all → Serves start now (each_behind f [] all) (Ok done)
-  unfolding each_behind
+  pub goes-done : GoesOn f start now done [] all → Serves start now (each_in_turn f [] all) (Ok done)
+  unfolding each_in_turn
   goes-done goes = goes.serves now (Ok done) (serves-done now done)
 
 pub goes-from : {A B : Type 0} (f : List B → A → Chain B) (start : Outside) (all : List A) → GoesOn f start start [] all all
@@ -188,7 +201,7 @@ form-loaded seed workers before m drawn fixed i at chosen place pages text same 
 
 -- the modules of a script, as far as they are loaded
 pub record IsLoading (seed : ℕ) (s : Script) (start now : Outside) (placer : Drawn) (images : List Image) (i : ℕ) : Type 0 where
-  pub goes : GoesOn (image_of seed s.workers) start now images (drop i s.loads) s.loads
+  pub goes : GoesOn (loaded_image module_of seed s.workers) start now images (drop i s.loads) s.loads
   pub drawn : placer ≡ opening_drawn seed s.workers images
   pub loaded : AreLoaded seed s.workers images
   pub count : length images ≡ i
@@ -213,11 +226,11 @@ module _ (seed : ℕ) (s : Script) (start now : Outside) (placer : Drawn) (image
     left : drop i s.loads ≡ l ∷ drop (i + 1) s.loads
     left = rw add-one (drop-cons s.loads i l within ∙ ap (λ x. x ∷ drop (suc i) s.loads) (sym at))
 
-    goes-on : GoesOn (image_of seed s.workers) start now images (l ∷ drop (i + 1) s.loads) s.loads
-    goes-on = subst (λ ls. GoesOn (image_of seed s.workers) start now images ls s.loads) left is.goes
+    goes-on : GoesOn (loaded_image module_of seed s.workers) start now images (l ∷ drop (i + 1) s.loads) s.loads
+    goes-on = subst (λ ls. GoesOn (loaded_image module_of seed s.workers) start now images ls s.loads) left is.goes
 
     pub loading-next : (new : Outside) (after : Drawn) (image : Image) → length s.loads ≤ MODULES
-        → ((workers : ℕ) (before : List Image) → placer ≡ opening_drawn placer.seed workers before → Serves now new (image_of placer.seed workers before l) (Ok image))
+        → ((workers : ℕ) (before : List Image) → placer ≡ opening_drawn placer.seed workers before → Serves now new (loaded_image module_of placer.seed workers before l) (Ok image))
         → ((workers : ℕ) (before : List Image) → AreLoaded placer.seed workers before → length before < MODULES → placer ≡ opening_drawn placer.seed workers before
         → AreLoaded placer.seed workers (before ++ image ∷ []) × (after ≡ opening_drawn placer.seed workers (before ++ image ∷ [])))
         → IsLoading seed s start new after (images ++ image ∷ []) (i + 1)
@@ -225,25 +238,25 @@ module _ (seed : ℕ) (s : Script) (start now : Outside) (placer : Drawn) (image
         let so_far : AreLoaded placer.seed s.workers images = subst (λ n. AreLoaded n s.workers images) (sym loading-seed) is.loaded in
         let all = loads s.workers images so_far (omega (arith, is.count)) loading-drawn in
         record {
-          goes = goes-further (image_of seed s.workers) start now images s.loads new l (drop (i + 1) s.loads) image goes-on (subst (λ n. Serves now new (image_of n s.workers images l) (Ok image)) loading-seed (serves s.workers images loading-drawn));
+          goes = goes-further (loaded_image module_of seed s.workers) start now images s.loads new l (drop (i + 1) s.loads) image goes-on (subst (λ n. Serves now new (loaded_image module_of n s.workers images l) (Ok image)) loading-seed (serves s.workers images loading-drawn));
           drawn = subst (λ n. after ≡ opening_drawn n s.workers (images ++ image ∷ [])) loading-seed all.1;
           loaded = subst (λ n. AreLoaded n s.workers (images ++ image ∷ [])) loading-seed all.0;
           count = omega (arith, length_push images image, is.count);
           no_more = omega (arith, within);
         }
 
-    pub loading-wrong : (new : Outside) (t : Trouble) → ((workers : ℕ) (before : List Image) → placer ≡ opening_drawn placer.seed workers before → Serves now new (image_of placer.seed workers before l) (Err t))
-        → Serves start new (images_of seed s) (Err t)
-    unfolding images_of
-    loading-wrong new t serves = let step = serves s.workers images loading-drawn in goes-wrong (image_of seed s.workers) start now images s.loads new l (drop (i + 1) s.loads) t goes-on (subst (λ n. Serves now new (image_of n s.workers images l) (Err t)) loading-seed step)
+    pub loading-wrong : (new : Outside) (t : Trouble) → ((workers : ℕ) (before : List Image) → placer ≡ opening_drawn placer.seed workers before → Serves now new (loaded_image module_of placer.seed workers before l) (Err t))
+        → Serves start new (loaded_images module_of seed s) (Err t)
+    unfolding loaded_images
+    loading-wrong new t serves = let step = serves s.workers images loading-drawn in goes-wrong (loaded_image module_of seed s.workers) start now images s.loads new l (drop (i + 1) s.loads) t goes-on (subst (λ n. Serves now new (loaded_image module_of n s.workers images l) (Err t)) loading-seed step)
 
-  pub loading-wanting : Serves start now (images_of seed s) (Err Memory)
-  unfolding images_of
-  loading-wanting = goes-wanting (image_of seed s.workers) start now images s.loads (drop i s.loads) is.goes
+  pub loading-wanting : Serves start now (loaded_images module_of seed s) (Err Memory)
+  unfolding loaded_images
+  loading-wanting = goes-wanting (loaded_image module_of seed s.workers) start now images s.loads (drop i s.loads) is.goes
 
-  pub loading-done : length s.loads ≤ i → Serves start now (images_of seed s) (Ok images)
-  unfolding images_of
-  loading-done end = goes-done (image_of seed s.workers) start now images s.loads (subst (λ ls. GoesOn (image_of seed s.workers) start now images ls s.loads) (drop_of_length-le s.loads end) is.goes)
+  pub loading-done : length s.loads ≤ i → Serves start now (loaded_images module_of seed s) (Ok images)
+  unfolding loaded_images
+  loading-done end = goes-done (loaded_image module_of seed s.workers) start now images s.loads (subst (λ ls. GoesOn (loaded_image module_of seed s.workers) start now images ls s.loads) (drop_of_length-le s.loads end) is.goes)
 
 pub loading-from : (seed : ℕ) (s : Script) (start : Outside) (placer : Drawn) → 1 ≤ s.workers → s.workers ≤ WORKERS → placer ≡ opening_drawn seed s.workers [] → IsLoading seed s start start placer [] 0
-loading-from seed s start placer some few drawn = record { goes = goes-from (image_of seed s.workers) start s.loads; drawn = drawn; loaded = loaded-none seed s.workers some few; count = refl; no_more = omega arith }
+loading-from seed s start placer some few drawn = record { goes = goes-from (loaded_image module_of seed s.workers) start s.loads; drawn = drawn; loaded = loaded-none seed s.workers some few; count = refl; no_more = omega arith }

@@ -1,6 +1,7 @@
 -- What a command does before it runs, as a chain of steps, and how such a chain may end.
 use Rattle.std.specs.Prelude.{◌≡◌, ◌⊎◌, ℕ, List, [], ◌∷◌, ◌++◌, Option, None, Some, IfSome, Result, Ok, Err}
-use Rattle.ad_base.specs.Outside.{Outside, Rose, Tells, Told}
+use Rattle.ad_base.specs.Count.{Rose}
+use Rattle.ad_base.specs.Outside.{Outside, Tells, Told}
 use Rattle.ad_form.specs.declared.read.Module.{Module}
 use Rattle.ad_form.specs.Object.{IsModule}
 use Rattle.ad_script.specs.declared.script.Script.{Script}
@@ -8,30 +9,47 @@ use Rattle.ad_script.specs.Script.{IsScript}
 use Rattle.ad_command.specs.declared.trouble.Trouble.{Trouble}
 use Rattle.ad_command.specs.declared.trouble.Trouble.TheVariants.{Read, Memory}
 
--- the grammars of files
-pub data Grammar : Type 0 where
-  ScriptText : Grammar
-  ModuleFile : Grammar
+-- What a chain has judged, where the answer is a relation and no function:
+--     ScriptText bytes      which script bytes are the text of
+--     ModuleFile bytes      which module bytes are the file of
+pub data Question : Type 0 where
+  ScriptText : List ℕ → Question
+  ModuleFile : List ℕ → Question
 
--- what a file of a grammar says, or none where its bytes have another form
-abbrev pub Meaning : Grammar → Type 0
-Meaning ScriptText = Option Script
-Meaning ModuleFile = Option Module
+-- what is found where nothing is wrong
+abbrev pub Found : Question → Type 0
+Found (ScriptText bytes) = Script
+Found (ModuleFile bytes) = Module
 
--- the bytes mean this
-abbrev pub Means : (g : Grammar) → List ℕ → Meaning g → Type 0
-Means ScriptText bytes (Some s) = IsScript bytes s
-Means ScriptText bytes None = (s : Script) → IsScript bytes s → ⊥
-Means ModuleFile bytes (Some m) = IsModule bytes m
-Means ModuleFile bytes None = (m : Module) → IsModule bytes m → ⊥
+-- what may be wrong: so far one thing, that the bytes have another form
+abbrev pub Wrong : Question → Type 0
+Wrong (ScriptText bytes) = Unit {0}
+Wrong (ModuleFile bytes) = Unit {0}
 
--- A chain of steps: it is done, or refuses, or asks for the file of a name and goes on with its bytes, or goes on with
--- what bytes mean by a grammar.
+-- what was found, or what is wrong
+abbrev pub Verdict : Question → Type 0
+Verdict q = Result (Found q) (Wrong q)
+
+abbrev pub IsFound : (q : Question) → Found q → Type 0
+IsFound (ScriptText bytes) s = IsScript bytes s
+IsFound (ModuleFile bytes) m = IsModule bytes m
+
+abbrev pub IsWrong : (q : Question) → Wrong q → Type 0
+IsWrong (ScriptText bytes) wrong = (s : Script) → IsScript bytes s → ⊥
+IsWrong (ModuleFile bytes) wrong = (m : Module) → IsModule bytes m → ⊥
+
+-- the verdict is right
+abbrev pub IsVerdict : (q : Question) → Verdict q → Type 0
+IsVerdict q (Ok found) = IsFound q found
+IsVerdict q (Err wrong) = IsWrong q wrong
+
+-- A chain of steps: it is done, or refuses, or asks for the file of a name and goes on with its bytes, or has a question
+-- judged and goes on with the verdict.
 pub data Chain (A : Type 0) : Type 0 where
   Done : A → Chain A
   Refuse : Trouble → Chain A
   Ask : List ℕ → (List ℕ → Chain A) → Chain A
-  Parse : (g : Grammar) → List ℕ → (Meaning g → Chain A) → Chain A
+  Judge : (q : Question) → (Verdict q → Chain A) → Chain A
 
 -- one chain behind the other: the first refusal counts
 infixl 10 ◌>>=◌
@@ -39,12 +57,12 @@ abbrev pub ◌>>=◌ : {A B : Type 0} → Chain A → (A → Chain B) → Chain 
 (Done a) >>= f = f a
 (Refuse t) >>= f = Refuse t
 (Ask name next) >>= f = Ask name (λ file. next file >>= f)
-(Parse g bytes next) >>= f = Parse g bytes (λ m. next m >>= f)
+(Judge q next) >>= f = Judge q (λ v. next v >>= f)
 
 -- a step for each of a list, in order, behind those that are done, of which it may make use
-unfoldable pub each_behind : {A B : Type 0} → (List B → A → Chain B) → List B → List A → Chain (List B)
-each_behind f done [] = Done done
-each_behind f done (x ∷ xs) = f done x >>= λ y. each_behind f (done ++ y ∷ []) xs
+unfoldable pub each_in_turn : {A B : Type 0} → (List B → A → Chain B) → List B → List A → Chain (List B)
+each_in_turn f done [] = Done done
+each_in_turn f done (x ∷ xs) = f done x >>= λ y. each_in_turn f (done ++ y ∷ []) xs
 
 -- what there is, or else a refusal
 abbrev pub given : {A : Type 0} → Trouble → Option A → Chain A
@@ -59,21 +77,21 @@ judged trouble (Err e) = Refuse (trouble e)
 -- Serving a chain, where the count of faults was `old` and then is `new`, may ask for these names and come to this end.
 -- Each file has bytes that what is told of it allows. Instead of any step there may be no memory. A file may fail to
 -- be read: then its name was asked for last, and the count rose; else it stays.
-abbrev pub Comes : {A : Type 0} → Told → ℕ → ℕ → Chain A → List (List ℕ) → Result A Trouble → Type 0
-Comes told old new (Done a) names r = (names ≡ []) × (new ≡ old) × ((r ≡ Ok a) ⊎ (r ≡ Err Memory))
-Comes told old new (Refuse t) names r = (names ≡ []) × (new ≡ old) × ((r ≡ Err t) ⊎ (r ≡ Err Memory))
-Comes told old new (Ask name next) names r =
+abbrev pub MayEnd : {A : Type 0} → Told → ℕ → ℕ → Chain A → List (List ℕ) → Result A Trouble → Type 0
+MayEnd told old new (Done a) names r = (names ≡ []) × (new ≡ old) × ((r ≡ Ok a) ⊎ (r ≡ Err Memory))
+MayEnd told old new (Refuse t) names r = (names ≡ []) × (new ≡ old) × ((r ≡ Err t) ⊎ (r ≡ Err Memory))
+MayEnd told old new (Ask name next) names r =
     ((names ≡ []) × (new ≡ old) × (r ≡ Err Memory))
     ⊎ ((names ≡ name ∷ []) × Rose old new × (r ≡ Err (Read name)))
-    ⊎ ((file : List ℕ) × (more : List (List ℕ)) × (names ≡ name ∷ more) × Tells (told name) file × Comes told old new (next file) more r)
-Comes told old new (Parse g bytes next) names r =
+    ⊎ ((file : List ℕ) × (more : List (List ℕ)) × (names ≡ name ∷ more) × Tells (told name) file × MayEnd told old new (next file) more r)
+MayEnd told old new (Judge q next) names r =
     ((names ≡ []) × (new ≡ old) × (r ≡ Err Memory))
-    ⊎ ((m : Meaning g) × Means g bytes m × Comes told old new (next m) names r)
+    ⊎ ((v : Verdict q) × IsVerdict q v × MayEnd told old new (next v) names r)
 
 -- from one state of the files to another, the chain comes to this end
 pub record Serves {A : Type 0} (old new : Outside) (c : Chain A) (r : Result A Trouble) : Type 0 where
   pub names : List (List ℕ)
-  pub comes : Comes old.told old.faults new.faults c names r
+  pub ends : MayEnd old.told old.faults new.faults c names r
   pub asked : IfSome old.asked (λ before. new.asked ≡ Some (before ++ names))
   pub same : new.told ≡ old.told
 
@@ -82,7 +100,7 @@ abbrev pub Gives : {A : Type 0} → (List ℕ → List ℕ) → Chain A → List
 Gives files (Done a) names r = (names ≡ []) × (r ≡ Ok a)
 Gives files (Refuse t) names r = (names ≡ []) × (r ≡ Err t)
 Gives files (Ask name next) names r = (more : List (List ℕ)) × (names ≡ name ∷ more) × Gives files (next (files name)) more r
-Gives files (Parse g bytes next) names r = (m : Meaning g) × Means g bytes m × Gives files (next m) names r
+Gives files (Judge q next) names r = (v : Verdict q) × IsVerdict q v × Gives files (next v) names r
 
 -- the bytes of all these names are told
 abbrev pub AreTold : Told → (List ℕ → List ℕ) → List (List ℕ) → Type 0

@@ -5,11 +5,9 @@ use Rattle.ad_lines.specs.declared.ready.ReadyStep.{ReadyStep}
 use Rattle.ad_lines.specs.Ready.{ready_steps}
 use Rattle.ad_script.specs.declared.script.Script.{Script}
 use Rattle.ad_command.specs.declared.trouble.Trouble.TheVariants.{NoExport, Usage}
-use Rattle.ad_command.specs.declared.words.Task.{Task}
-use Rattle.ad_command.specs.declared.words.Task.TheVariants.{Seq}
 use Rattle.ad_command.specs.Chain.{Chain, Done, ◌>>=◌, given, judged}
-use Rattle.ad_command.specs.Loading.{images_of, script_of}
-use Rattle.ad_command.specs.Words.{Command, command_of}
+use Rattle.ad_command.specs.Loading.{loaded_images, module_of, script_of}
+use Rattle.ad_command.specs.Words.{Command, Seq, command_of}
 
 -- a run that may begin: the seed of its places, the steps that a call may make, the script, the images of its modules,
 -- and its steps
@@ -20,20 +18,25 @@ pub record Job : Type 0 where
   pub images : List Image
   pub steps : List ReadyStep
 
--- a script that is run line by line: it is read, its modules are loaded, and each call finds its export
-unfoldable pub seq : Command → Chain Job
-seq c = do
-  script ← script_of c.operand
-  images ← images_of c.seed script
-  steps ← judged NoExport (ready_steps images script.steps)
-  Done (record { seed = c.seed; fuel = c.fuel; script = script; images = images; steps = steps })
+-- What is done once all files of a command were read:
+--     Lines job      the job's lines are run one after another, and the run is reported
+pub data Work : Type 0 where
+  Lines : Job → Work
 
--- what a command does
-abbrev pub work_of : Task → Command → Chain Job
-work_of Seq c = seq c
+-- a script that is run from a seed: it is read, its modules are loaded, and each call finds its export
+unfoldable pub job_of : List ℕ → ℕ → ℕ → Chain Job
+job_of operand seed fuel = do
+  script ← script_of operand
+  images ← loaded_images module_of seed script
+  steps ← judged NoExport (ready_steps images script.steps)
+  Done (record { seed = seed; fuel = fuel; script = script; images = images; steps = steps })
+
+-- the work of a command
+abbrev pub work_of : Command → Chain Work
+work_of (Seq script seed fuel) = job_of script seed fuel >>= λ j. Done (Lines j)
 
 -- the whole chain
-unfoldable pub command : List (List ℕ) → Chain Job
+unfoldable pub command : List (List ℕ) → Chain Work
 command words = do
   c ← given Usage (command_of words)
-  work_of c.task c
+  work_of c

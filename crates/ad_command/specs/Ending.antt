@@ -1,42 +1,92 @@
--- What the command comes to: the end of its chain, and what it leaves.
-use Rattle.std.specs.Prelude.{◌≡◌, ◌<◌, ◌⊎◌, ℕ, List, [], ◌∷◌, ◌++◌, length, map, take, Option, None, Some, IfSome, Result, Ok, Err, All}
-use Rattle.std.specs.List.{AllZip}
+-- What a command comes to: the end of its chain, and what it leaves.
+use Rattle.std.specs.Prelude.{◌≡◌, ◌<◌, ◌⊎◌, ◌==◌, ℕ, Bool, false, List, [], ◌∷◌, ◌++◌, filter, length, map, slice_get, take, Option, None, Some, IfSome, Result, Ok, Err, All}
+use Rattle.std.specs.List.{AllZip, flat_map}
 use Rattle.std.specs.Io.KnownBytes.{Appends}
-use Rattle.ad_base.specs.declared.book.Book.{Book}
+use Rattle.ad_base.specs.declared.book.Entry.{Entry}
 use Rattle.ad_base.specs.declared.image.Image.{Image}
 use Rattle.ad_base.specs.declared.ledger.Moved.{Moved}
 use Rattle.ad_base.specs.declared.ledger.Row.{Row}
-use Rattle.ad_base.specs.Book.{contents_of}
-use Rattle.ad_base.specs.Ledger.{IsLedger, IsUnmappedOnce, made_mappings}
+use Rattle.ad_base.specs.declared.place.Place.{Place}
+use Rattle.ad_base.specs.Book.{Contents, contents_of}
+use Rattle.ad_base.specs.Ledger.{IsLedger, IsUnmappedOnce, Mapping, made_mappings}
+use Rattle.ad_base.specs.Count.{Rose}
+use Rattle.ad_base.specs.Outside.{Output}
 use Rattle.ad_core.specs.Turn.{IsLawful}
-use Rattle.ad_lines.specs.LineLaws.{run_of_seed}
+use Rattle.ad_lines.specs.declared.ready.ReadyStep.{ReadyStep}
+use Rattle.ad_lines.specs.declared.ready.ReadyStep.TheVariants as ready
+use Rattle.ad_lines.specs.LineLaws.{calls_of_module, draw_of, move_request, move_requests, run_of_seed, step_of}
 use Rattle.ad_lines.specs.LineRun.{ModuleState, RunState}
-use Rattle.ad_lines.specs.Opening.{opening_drawn, opening_mappings}
+use Rattle.ad_lines.specs.Opening.{drawn_for, opening_drawn, opening_mappings, opening_requests}
+use Rattle.ad_place.specs.Choice.{places_of}
 use Rattle.ad_relate.specs.ClearHistory.{RepliesAsReplayed}
 use Rattle.ad_report.specs.Report.{report}
+use Rattle.ad_command.specs.declared.top.Ended.{Ended}
 use Rattle.ad_command.specs.declared.trouble.Trouble.{Trouble}
 use Rattle.ad_command.specs.declared.trouble.Trouble.TheVariants.{Memory, Read, Write}
-use Rattle.ad_command.specs.Command.{Job}
+use Rattle.ad_command.specs.Command.{Job, Lines, Work}
+
+-- what work comes to: what the books of the modules hold, what came of the moves, all mappings, and the text that is to be
+-- written
+pub record Ending : Type 0 where
+  pub books : List Contents
+  pub moves : List Moved
+  pub rows : List Row
+  pub text : List ℕ
 
 -- what the lines of a job come to
 abbrev pub run_of_job : Job → RunState
 run_of_job j = run_of_seed j.seed j.script.workers j.images j.fuel j.steps
 
--- What a job leaves: the books of its modules, what came of its moves, and all mappings. They are those of the line
--- run. Turns of the plain machine reach each book, and its clear calls reply as the symbolic machine does; the rows are
--- the ledger of what was mapped at the opening and by the moves, and what was retired was unmapped once.
-pub record IsDone (j : Job) (books : List Book) (moves : List Moved) (rows : List Row) : Type 0 where
-  pub ran : map contents_of books ≡ map (λ (m : ModuleState). m.book) (run_of_job j).modules
-  pub moved : moves ≡ (run_of_job j).placement.moves
-  pub mapped : rows ≡ (run_of_job j).placement.mappings
-  pub lawful : AllZip (λ (i : Image) (b : Book). IsLawful i j.fuel (contents_of b)) j.images books
-  pub clear : AllZip (λ (i : Image) (b : Book). RepliesAsReplayed i j.fuel b.history.entries) j.images books
-  pub ledger : IsLedger (opening_mappings j.script.workers (opening_drawn j.seed j.script.workers j.images).places ++ made_mappings moves) rows
-  pub unmapped : All IsUnmappedOnce rows
+-- Books, moves and mappings are those of the line run.
+pub record IsLineRun (j : Job) (e : Ending) : Type 0 where
+  pub ran : e.books ≡ map (λ (m : ModuleState). m.book) (run_of_job j).modules
+  pub moved : e.moves ≡ (run_of_job j).placement.moves
+  pub mapped : e.rows ≡ (run_of_job j).placement.rows
 
--- the report of a job is that of what it leaves
-abbrev pub text_of : Job → List Book → List Moved → List Row → List ℕ
-text_of j books moves rows = report j.script (map contents_of books) moves rows
+-- the mappings before the first line of a job
+abbrev pub opening_of_job : Job → List Mapping
+opening_of_job j = opening_mappings j.script.workers j.images (opening_drawn j.seed j.script.workers j.images).places
+
+-- the places that the seed chooses for a job's opening and for these moves
+abbrev pub chosen_places : Job → List Moved → List Place
+chosen_places j moves = places_of j.seed (map drawn_for (opening_requests j.script.workers j.images) ++ flat_map (draw_of j.images) moves)
+
+-- a step by which a worker calls
+abbrev pub is_by : ℕ → ReadyStep → Bool
+is_by worker (ready.Call line caller «module» export args) = caller == worker
+is_by worker (ready.Move line modules) = false
+is_by worker (ready.Stack line caller) = false
+
+-- a place without the number of its frames, which the seed doesn't choose
+abbrev pub unframed : Place → Place
+unframed p = record p { frame = 0 }
+
+-- What holds of a run of a job, in whatever order its calls and moves were made, where these mappings were made before
+-- the first of them.
+pub record IsSoundRun (opening : List Mapping) (j : Job) (e : Ending) : Type 0 where
+  -- turns of the plain machine reach each book
+  pub lawful : AllZip (λ (i : Image) (b : Contents). IsLawful i j.fuel b) j.images e.books
+  -- the calls of a worker in a module's book are those that the steps ask for, in order
+  pub calls : (number worker : ℕ) (b : Contents) → slice_get e.books number ≡ Some b
+      → map (step_of number) (filter (λ (x : Entry). x.worker == worker) b.entries) ≡ filter (is_by worker) (calls_of_module number j.steps)
+  -- the clear calls of a book reply as the symbolic machine does
+  pub clear : AllZip (λ (i : Image) (b : Contents). RepliesAsReplayed i j.fuel b.entries) j.images e.books
+  -- the moves are those that the steps ask for, in order
+  pub moves : map move_request e.moves ≡ flat_map move_requests j.steps
+  -- each mapping lies at the next place that the seed chooses
+  pub places : map (λ (r : Row). unframed r.place) e.rows ≡ map unframed (chosen_places j e.moves)
+  -- the rows are the ledger of the opening and of what the moves made
+  pub ledger : IsLedger (opening ++ made_mappings e.moves) e.rows
+  -- what was retired was unmapped once
+  pub unmapped : All IsUnmappedOnce e.rows
+
+-- the text is the report of the job's script, of the books, of the moves and of the mappings
+abbrev pub IsReported : Job → Ending → Type 0
+IsReported j e = e.text ≡ report j.script e.books e.moves e.rows
+
+-- what work comes to
+abbrev pub IsDone : Work → Ending → Type 0
+IsDone (Lines j) e = IsLineRun j e × IsSoundRun (opening_of_job j) j e × IsReported j e
 
 -- the fault of a chain's end
 abbrev pub fault_of : {A : Type 0} → Result A Trouble → Option Trouble
@@ -57,30 +107,31 @@ AsksFirstOf old new all = IfSome old (λ before. (names more : List (List ℕ)) 
 
 -- The whole text was written, or a prefix of it that isn't all, where the sink failed. Its count of faults stays in the
 -- first case, and rose in the second.
-abbrev pub Writes : Type 0 → Type 0 → Option (List ℕ) → Option (List ℕ) → Option Trouble → List ℕ → Type 0
-Writes rose stays old new fault text =
-    ((fault ≡ None) × stays × Appends old new text) ⊎ ((fault ≡ Some Write) × rose × ((n : ℕ) × (n < length text) × Appends old new (take n text)))
+abbrev pub Writes : Output → Output → Option Trouble → List ℕ → Type 0
+Writes old new fault text =
+    ((fault ≡ None) × (new.faults ≡ old.faults) × Appends old.taken new.taken text)
+    ⊎ ((fault ≡ Some Write) × Rose old.faults new.faults × ((n : ℕ) × (n < length text) × Appends old.taken new.taken (take n text)))
 
 -- nothing was done or written, for this reason
-pub record LeavesNothing (books : List Book) (moves : List Moved) (rows : List Row) (untouched : Type 0) (fault : Option Trouble) (t : Trouble) : Type 0 where
-  pub reason : fault ≡ Some t
-  pub no_book : books ≡ []
-  pub no_move : moves ≡ []
-  pub no_row : rows ≡ []
-  pub nothing_written : untouched
+pub record LeavesNothing (old new : Output) (e : Ended) (t : Trouble) : Type 0 where
+  pub reason : e.fault ≡ Some t
+  pub no_book : e.books.items ≡ []
+  pub no_move : e.moves.items ≡ []
+  pub no_row : e.ledger.items ≡ []
+  pub nothing_written : new ≡ old
 
--- the job was done, and its report was written
-pub record LeavesAll (books : List Book) (moves : List Moved) (rows : List Row) (rose stays : Type 0) (old new : Option (List ℕ)) (fault : Option Trouble) (j : Job) : Type 0 where
-  pub done : IsDone j books moves rows
-  pub written : Writes rose stays old new fault (text_of j books moves rows)
+-- the work was done, and its text was written
+pub record LeavesDone (old new : Output) (e : Ended) (w : Work) : Type 0 where
+  pub text : List ℕ
+  pub done : IsDone w (record { books = map contents_of e.books.items; moves = e.moves.items; rows = e.ledger.items; text = text })
+  pub written : Writes old new e.fault text
 
--- What the command leaves: nothing where its chain refuses, and else what its job does. The facts are that the sink's
--- count of faults rose, that it stays, and that nothing of the sink changed.
-abbrev pub Leaves : List Book → List Moved → List Row → Type 0 → Type 0 → Type 0 → Option (List ℕ) → Option (List ℕ) → Option Trouble → Result Job Trouble → Type 0
-Leaves books moves rows rose stays untouched old new fault (Err t) = LeavesNothing books moves rows untouched fault t
-Leaves books moves rows rose stays untouched old new fault (Ok j) = LeavesAll books moves rows rose stays old new fault j
+-- what the command leaves: nothing where its chain refuses, and else its work done
+abbrev pub Leaves : Output → Output → Ended → Result Work Trouble → Type 0
+Leaves old new e (Err t) = LeavesNothing old new e t
+Leaves old new e (Ok w) = LeavesDone old new e w
 
--- what is to be written of a job, and what it tells
-pub record IsReport (j : Job) (books : List Book) (moves : List Moved) (rows : List Row) (text : List ℕ) : Type 0 where
-  pub done : IsDone j books moves rows
-  pub text_is : text ≡ text_of j books moves rows
+-- The fault is that of the chain's end, or a failed write where the chain was done.
+abbrev pub IsFaultOf : Option Trouble → Result Work Trouble → Type 0
+IsFaultOf fault (Err t) = fault ≡ Some t
+IsFaultOf fault (Ok w) = (fault ≡ None) ⊎ (fault ≡ Some Write)

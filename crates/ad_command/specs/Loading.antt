@@ -3,14 +3,14 @@ use Rattle.std.specs.Prelude.{ℕ, List, [], length, nat_lt, if◌then◌else◌
 use Rattle.ad_base.specs.declared.image.Image.{Image}
 use Rattle.ad_base.specs.declared.layout.TheConstants.{FILE_BYTES}
 use Rattle.ad_base.specs.declared.ledger.Kind.TheVariants.{Fixed}
-use Rattle.ad_form.specs.declared.image.TheConstants.{FIXED_PAGES}
-use Rattle.ad_form.specs.FormImage.{form_image}
+use Rattle.ad_form.specs.declared.read.Module.{Module}
+use Rattle.ad_form.specs.FormImage.{form_image, immovable_pages}
 use Rattle.ad_lines.specs.Opening.{opening_drawn}
 use Rattle.ad_place.specs.Choice.{next_place}
 use Rattle.ad_script.specs.declared.script.Load.{Load}
 use Rattle.ad_script.specs.declared.script.Script.{Script}
 use Rattle.ad_command.specs.declared.trouble.Trouble.TheVariants.{BadScript, Form, TooLarge}
-use Rattle.ad_command.specs.Chain.{Ask, Chain, Done, ModuleFile, Parse, Refuse, ScriptText, ◌>>=◌, each_behind, given}
+use Rattle.ad_command.specs.Chain.{Ask, Chain, Done, Judge, ModuleFile, Refuse, ScriptText, ◌>>=◌, each_in_turn, judged}
 
 -- the file of a name, which isn't too long
 unfoldable pub file_of : List ℕ → Chain (List ℕ)
@@ -18,17 +18,26 @@ file_of name = Ask name (λ file. if nat_lt FILE_BYTES (length file) then Refuse
 
 -- the script in a file
 unfoldable pub script_of : List ℕ → Chain Script
-script_of operand = do
-  text ← file_of operand
-  Parse ScriptText text (given BadScript)
+script_of name = do
+  text ← file_of name
+  Judge (ScriptText text) (judged (λ wrong. BadScript))
 
--- the image of a module that is loaded behind these: its immovable part lies at the next place that the seed draws
-unfoldable pub image_of : ℕ → ℕ → List Image → Load → Chain Image
-image_of seed workers before l = do
-  file ← file_of l.file
-  m ← Parse ModuleFile file (given (Form l.file))
-  Done (form_image m (next_place (opening_drawn seed workers before) Fixed FIXED_PAGES))
+-- the module in a file
+unfoldable pub module_of : List ℕ → Chain Module
+module_of name = do
+  file ← file_of name
+  Judge (ModuleFile file) (judged (λ wrong. Form name))
 
--- the images of a script's modules, in order
-unfoldable pub images_of : ℕ → Script → Chain (List Image)
-images_of seed s = each_behind (image_of seed s.workers) [] s.loads
+-- the image of a module that is loaded behind these, where its immovable part lies at the next place that the seed draws
+unfoldable pub placed_image : ℕ → ℕ → List Image → Module → Chain Image
+placed_image seed workers before m = Done (form_image m (next_place (opening_drawn seed workers before) Fixed (immovable_pages m)))
+
+-- the image of a load behind these
+unfoldable pub loaded_image : (List ℕ → Chain Module) → ℕ → ℕ → List Image → Load → Chain Image
+loaded_image module_of seed workers before l = do
+  m ← module_of l.file
+  placed_image seed workers before m
+
+-- the images of a script's modules, in order, where the module in the file of a name is had so
+unfoldable pub loaded_images : (List ℕ → Chain Module) → ℕ → Script → Chain (List Image)
+loaded_images module_of seed s = each_in_turn (loaded_image module_of seed s.workers) [] s.loads

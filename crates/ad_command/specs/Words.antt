@@ -1,15 +1,17 @@
 -- The command words.
 use Rattle.std.specs.Prelude.{ℕ, ◌&&◌, ◌==◌, Bool, false, not, bytes_eq, codes, List, [], ◌∷◌, Option, None, Some, if◌then◌else◌}
-use Rattle.ad_command.specs.declared.words.Task.{Task}
-use Rattle.ad_command.specs.declared.words.Task.TheVariants.{Seq}
+use Rattle.ad_command.specs.declared.words.Command as read
+use Rattle.ad_command.specs.declared.words.Command.TheVariants as variants
 use Rattle.ad_command.specs.declared.words.TheConstants.{FUEL, SEED}
 
--- a command: what to do, the operand, the seed of the choice of places, and how many steps a call may make
-pub record Command : Type 0 where
-  pub task : Task
-  pub operand : List ℕ
-  pub seed : ℕ
-  pub fuel : ℕ
+-- A command, by what is done:
+--     Seq script seed fuel      the lines of a script are run one after another, with places from a seed and so many steps of each call at most
+pub data Command : Type 0 where
+  Seq : List ℕ → ℕ → ℕ → Command
+
+-- the command that was read, with its operand as bytes
+abbrev pub command_seen : read.Command → Command
+command_seen (variants.Seq script seed fuel) = Seq script.now seed fuel
 
 -- a word that begins with `-`
 abbrev pub is_option : List ℕ → Bool
@@ -18,6 +20,5 @@ is_option (first ∷ rest) = first == 0x2d
 
 -- The grammar: `seq` and one operand, which doesn't begin with `-`.
 abbrev pub command_of : List (List ℕ) → Option Command
-command_of (task ∷ operand ∷ []) =
-    if bytes_eq task (codes "seq") && not (is_option operand) then Some (record { task = Seq; operand = operand; seed = SEED; fuel = FUEL }) else None
+command_of (task ∷ operand ∷ []) = if bytes_eq task (codes "seq") && not (is_option operand) then Some (Seq operand SEED FUEL) else None
 command_of words = None

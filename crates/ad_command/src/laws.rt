@@ -1,21 +1,61 @@
 //! Laws of the command.
 
-ghost use Rattle.std.specs.Prelude.{◌≡◌, ◌≤◌, ℕ, List, [], ◌∷◌, length, None, Result, Err};
+ghost use Rattle.std.specs.Prelude.{◌≡◌, ◌≤◌, ℕ, List, [], ◌∷◌, length, codes, false, Result, Ok, Err};
 ghost use Rattle.ad_base.specs.declared.image.Image.{Image};
-ghost use Rattle.ad_command.specs.Chain.{Gives, Means, ModuleFile};
-ghost use Rattle.ad_command.specs.Loading.{images_of};
+ghost use Rattle.ad_form.specs.declared.read.Module.{Module};
+ghost use Rattle.ad_form.specs.FormImage.{form_image};
+ghost use Rattle.ad_form.specs.Object.{IsModule};
+ghost use Rattle.ad_lines.specs.declared.ready.ReadyStep.{ReadyStep};
+ghost use Rattle.ad_lines.specs.Opening.{opening_drawn};
+ghost use Rattle.ad_lines.specs.Ready.{ready_steps};
+ghost use Rattle.ad_place.specs.Choice.{next_place};
 ghost use Rattle.ad_script.specs.declared.script.Load.{Load};
 ghost use Rattle.ad_script.specs.declared.script.Script.{Script};
+ghost use Rattle.ad_script.specs.Script.{IsScript};
+ghost use Rattle.ad_command.specs.Chain.{Gives, IsWrong, ModuleFile};
+ghost use Rattle.ad_command.specs.Command.{Lines, Work, command};
+ghost use Rattle.ad_command.specs.Loading.{loaded_images, module_of};
+ghost use Rattle.ad_command.specs.Words.{is_option};
 
 use crate::trouble::Trouble;
-use ad_base::FILE_BYTES;
+use crate::words::{FUEL, SEED};
+use ad_base::{FILE_BYTES, Kind};
+use ad_form::FIXED_PAGES;
 
 /// Where the first file that a script loads isn't too long and is no module, the refusal tells its name, and no other
 /// file is asked for. This holds whatever the files behind it are, and so too where a second one is no module either.
 pub fn law_first_refusal()
     ensures { (files : List ℕ → List ℕ) (seed : ℕ) (s : Script) (first : Load) (more : List Load)
         (names : List (List ℕ)) (due : Result (List Image) Trouble)
-        → s.loads ≡ first ∷ more → length (files first.file) ≤ FILE_BYTES → Means ModuleFile (files first.file) None
-        → Gives files (images_of seed s) names due
+        → s.loads ≡ first ∷ more → length (files first.file) ≤ FILE_BYTES → IsWrong (ModuleFile (files first.file)) tt
+        → Gives files (loaded_images module_of seed s) names due
         → (due ≡ Err (Trouble.Form first.file)) × (names ≡ first.file ∷ []) }
+{}
+
+/// Worked chains: words of no command, an option, and a script's file without a byte.
+pub fn law_worked_chains()
+    ensures task { (files : List ℕ → List ℕ) → Gives files (command (codes "none" ∷ codes "s" ∷ [])) [] (Err Trouble.Usage) }
+    ensures option { (files : List ℕ → List ℕ) → Gives files (command (codes "seq" ∷ codes "-s" ∷ [])) [] (Err Trouble.Usage) }
+    ensures script { (files : List ℕ → List ℕ) → files (codes "s") ≡ []
+        → Gives files (command (codes "seq" ∷ codes "s" ∷ [])) (codes "s" ∷ []) (Err Trouble.BadScript) }
+{}
+
+/// Over files of the same bytes the chain of a command has one answer, and asks for the same names.
+pub fn law_one_answer()
+    ensures { (files : List ℕ → List ℕ) (words names more : List (List ℕ)) (due other : Result Work Trouble)
+        → Gives files (command words) names due → Gives files (command words) more other
+        → (names ≡ more) × (due ≡ other) }
+{}
+
+/// The chain of right words is done, where the script's file and the file of the one module that it loads aren't too
+/// long and have their forms, and each call finds its export. It asks for these two files, and its work is to run the
+/// script's lines on that module, whose immovable part lies at the place that the seed draws behind the stacks.
+pub fn law_right_commands_are_done()
+    ensures { (files : List ℕ → List ℕ) (operand : List ℕ) (s : Script) (l : Load) (m : Module) (i : Image) (steps : List ReadyStep)
+        → is_option operand ≡ false → length (files operand) ≤ FILE_BYTES → IsScript (files operand) s → s.loads ≡ l ∷ []
+        → length (files l.file) ≤ FILE_BYTES → IsModule (files l.file) m
+        → i ≡ form_image m (next_place (opening_drawn SEED s.workers []) Kind.Fixed FIXED_PAGES)
+        → ready_steps (i ∷ []) s.steps ≡ Ok steps
+        → Gives files (command (codes "seq" ∷ operand ∷ [])) (operand ∷ l.file ∷ [])
+        (Ok (Lines (record { seed = SEED; fuel = FUEL; script = s; images = i ∷ []; steps = steps }))) }
 {}

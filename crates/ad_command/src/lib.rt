@@ -1,7 +1,12 @@
 //! The command: from its words over the files that it reads to what is written.
 #![tactic(auto)]
 
-ghost use Rattle.std.specs.Prelude.{◌≡◌, Option};
+ghost use Rattle.std.specs.Prelude.{◌≡◌, Option, Result, map, string_bytes};
+ghost use Rattle.std.specs.Process.{exit_status};
+ghost use Rattle.ad_base.specs.Outside.{Outside};
+ghost use Rattle.ad_command.specs.Chain.{Serves};
+ghost use Rattle.ad_command.specs.Command.{Work, command};
+ghost use Rattle.ad_command.specs.Ending.{IsFaultOf};
 ghost use Rattle.ad_command.specs.Trouble.{status_of};
 ghost use Rattle.ad_command.specs.declared.trouble.Trouble.{Trouble};
 
@@ -14,36 +19,42 @@ mod trouble;
 mod words;
 
 use ad_base::{DiskFiles, OutSink};
-pub use laws::law_first_refusal;
+pub use laws::{law_first_refusal, law_one_answer, law_right_commands_are_done, law_worked_chains};
+use std::process::ExitCode;
 use std::rt::Env;
 use std::{env, io};
 pub use top::{Ended, top_still};
 pub use trouble::{Trouble, exit_status, unread_words};
 pub use words::{FUEL, SEED, law_defaults};
 
-/// Serves the words of the process over the files of the system and standard output, and returns the status that the
-/// process ends with. A fault is told on standard error. What the words come to is said by `top_still`.
-pub fn run_process<R: Env + AllocGlobal + std::rt::Files + Print + Eprint>(rt: &R) -> u8
-    ensures { (fault : Option Trouble) × (result ≡ status_of fault) }
+/// Serves the words of the process over the files of the system and standard output, and gives the status that the
+/// process ends with. A fault is told on standard error. What the words come to is said by `run_words`.
+pub fn run_process<R: Env + AllocGlobal + std::rt::Files + Print + Eprint>(rt: &R) -> ExitCode
+    ensures { (fault : Option Trouble) × (exit_status result ≡ status_of fault) }
 {
-    let fault = serve(rt);
+    let fault = match arguments(rt) {
+        Ok(words) => run_words(rt, words.as_slice()),
+        Err(trouble) => Some(trouble),
+    };
     if let Some(trouble) = &fault {
         // Where even this can't be written, the status still tells.
         let _ = eprintln!(rt; "{trouble}");
     }
-    exit_status(&fault)
+    ExitCode::from(exit_status(&fault))
 }
 
-/// Serves the words of the process.
-fn serve<R: Env + AllocGlobal + std::rt::Files + Print>(rt: &R) -> Option<Trouble> {
-    match arguments(rt) {
-        Ok(words) => {
-            let mut files = DiskFiles::new(rt);
-            let mut out = OutSink::new(io::writer(rt));
-            top_still(rt, words.as_slice(), &mut files, &mut out).fault
-        }
-        Err(trouble) => Some(trouble),
-    }
+/// Serves command words over the files of the system and standard output: what `top_still` does there. Nothing is told
+/// of what those hold.
+pub fn run_words<R: AllocGlobal + std::rt::Files + Print>(
+    rt: &R,
+    words: &[String],
+) -> Option<Trouble>
+    ensures { (old new : Outside) × (end : Result Work Trouble)
+        × Serves old new (command (map string_bytes words.now)) end × IsFaultOf result end }
+{
+    let mut files = DiskFiles::new(rt);
+    let mut out = OutSink::new(io::writer(rt));
+    top_still(rt, words, &mut files, &mut out).fault
 }
 
 /// The words after the program's name.

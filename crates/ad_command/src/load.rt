@@ -3,12 +3,12 @@
 ghost use Rattle.std.specs.Prelude.{◌≡◌, ◌⊎◌, ◌+◌, ◌++◌, ◌<◌, ◌≤◌, List, ℕ, [], ◌∷◌, length, IfOk, IfErr, Ok, Err};
 ghost use Rattle.ad_base.specs.declared.image.Image.{Image};
 ghost use Rattle.ad_form.specs.declared.read.Module.{Module};
-ghost use Rattle.ad_form.specs.Object.{IsModule};
+ghost use Rattle.ad_form.specs.Object.{IsModule, IsText};
 ghost use Rattle.ad_lines.specs.Opening.{opening_drawn, AreLoaded};
 ghost use Rattle.ad_script.specs.declared.script.Script.{Script};
 ghost use Rattle.ad_script.specs.Script.{IsFileName, IsInRange, IsScript};
 ghost use Rattle.ad_command.specs.Chain.{Serves, seen};
-ghost use Rattle.ad_command.specs.Loading.{file_of, image_of, images_of, script_of};
+ghost use Rattle.ad_command.specs.Loading.{file_of, loaded_image, loaded_images, module_of, script_of};
 
 use crate::trouble::Trouble;
 use ad_base::{
@@ -16,15 +16,15 @@ use ad_base::{
 };
 use ad_form::{FIXED_PAGES, MOVABLE_PAGES, Module, image_of, law_form_image, read_module};
 use ad_place::Placer;
-use ad_script::{Load, Script, law_file_names_are_text, law_in_range, read_script};
+use ad_script::{Load, Script, file_text, law_in_range, read_script};
 use std::alloc::Global;
 
-/// What the script in the operand's file says.
-pub fn script_of<F: Files>(alloc: Global, files: &mut F, operand: &str) -> Result<Script, Trouble>
-    ensures serves { Serves (F.outside files.old) (F.outside files.new) (script_of operand.now) result }
+/// The script in the file of this name.
+pub fn script_of<F: Files>(alloc: Global, files: &mut F, name: &str) -> Result<Script, Trouble>
+    ensures serves { Serves (F.outside files.old) (F.outside files.new) (script_of name.now) result }
     ensures range { IfOk result IsInRange }
 {
-    let text = file_of(alloc, files, operand)?;
+    let text = file_of(alloc, files, name)?;
     parse_script(alloc, &text)
 }
 
@@ -36,14 +36,14 @@ pub struct Loaded {
 }
 
 /// Loads the modules of a script, in order.
-pub fn load<F: Files>(
+pub fn load_images<F: Files>(
     alloc: Global,
     files: &mut F,
     script: &Script,
     seed: u64,
 ) -> Result<Loaded, Trouble>
     requires { IsInRange script.now }
-    ensures serves { Serves (F.outside files.old) (F.outside files.new) (images_of seed script.now)
+    ensures serves { Serves (F.outside files.old) (F.outside files.new) (loaded_images module_of seed script.now)
         (seen (λ l. l.images.items) result) }
     ensures seed { IfOk result (λ l. l.placer.seed ≡ seed) }
     ensures drawn { IfOk result (λ l. l.placer ≡ opening_drawn seed script.now.workers l.images.items) }
@@ -53,7 +53,7 @@ pub fn load<F: Files>(
     let mut placer = draw_stacks(alloc, seed, script.workers)?;
     let mut images = Vec::new(alloc);
     for load in script.loads.as_slice() {
-        let image = load_module(alloc, files, &mut placer, load)?;
+        let image = load_image(alloc, files, &mut placer, load)?;
         images.push(image)?;
     }
     Ok(Loaded { images, placer })
@@ -97,7 +97,7 @@ fn draw_stacks(alloc: Global, seed: u64, workers: u64) -> Result<Placer, OutOfMe
 
 /// Loads a module behind others: draws the place of its immovable part, makes its image, and draws the place of its
 /// movable part.
-fn load_module<F: Files>(
+fn load_image<F: Files>(
     alloc: Global,
     files: &mut F,
     placer: &mut Placer,
@@ -106,18 +106,27 @@ fn load_module<F: Files>(
     requires name { IsFileName load.now.file }
     requires room { length placer.old.places + 2 ≤ MAPPINGS }
     ensures serves { (workers : ℕ) (before : List Image) → placer.old ≡ opening_drawn placer.old.seed workers before
-        → Serves (F.outside files.old) (F.outside files.new) (image_of placer.old.seed workers before load.now) result }
+        → Serves (F.outside files.old) (F.outside files.new) (loaded_image module_of placer.old.seed workers before load.now) result }
     ensures loaded { IfOk result (λ i. (workers : ℕ) (before : List Image) → AreLoaded placer.old.seed workers before → length before < MODULES
         → placer.old ≡ opening_drawn placer.old.seed workers before
         → AreLoaded placer.old.seed workers (before ++ i ∷ []) × (placer.new ≡ opening_drawn placer.old.seed workers (before ++ i ∷ []))) }
 {
-    let file = file_of(alloc, files, file_text(&load.file))?;
-    let module = parse_module(alloc, &file, &load.file)?;
+    let module = module_of(alloc, files, &load.file)?;
     law_form_image();
     let fixed = placer.next(Kind::Fixed, FIXED_PAGES);
     let image = image_of(alloc, module, fixed)?;
     placer.next(Kind::Code, MOVABLE_PAGES);
     Ok(image)
+}
+
+/// The module in the file of this name.
+fn module_of<F: Files>(alloc: Global, files: &mut F, name: &Name) -> Result<Module, Trouble>
+    requires { IsFileName name.now }
+    ensures serves { Serves (F.outside files.old) (F.outside files.new) (module_of name.now) result }
+    ensures whole { IfOk result (λ m. IsText m.text) }
+{
+    let file = file_of(alloc, files, file_text(name))?;
+    parse_module(alloc, &file, name)
 }
 
 /// What the file of a module says, whose name is this.
@@ -127,16 +136,4 @@ fn parse_module(alloc: Global, file: &[u8], name: &Name) -> Result<Module, Troub
 {
     let named = Name::of(alloc, name.bytes())?;
     read_module(alloc, file)?.ok_or(Trouble::Form { file: named })
-}
-
-/// The name of a file as text: it is ASCII.
-fn file_text(name: &Name) -> &str
-    requires { IsFileName name.now }
-    ensures { result.now ≡ name.now }
-{
-    law_file_names_are_text();
-    match std::str::from_utf8(name.bytes()) {
-        Ok(text) => text,
-        Err(_) => unreachable!(),
-    }
 }

@@ -1,12 +1,10 @@
 //! The command, from its words to what is written.
 
-ghost use Rattle.std.specs.Prelude.{◌≡◌, ◌⊎◌, ℕ, List, [], length, map, string_bytes, Some, Result, Ok, Err, IfOk, IfErr, MatchResult};
-ghost use Rattle.ad_base.specs.Outside.{Rose};
+ghost use Rattle.std.specs.Prelude.{◌≡◌, ◌≢◌, ◌⊎◌, ℕ, List, [], length, map, string_bytes, Some, Result, Ok, Err, IfOk, IfErr, MatchResult};
 ghost use Rattle.ad_base.specs.Book.{contents_of};
 ghost use Rattle.ad_command.specs.Chain.{AreTold, Gives, Serves};
-ghost use Rattle.ad_command.specs.Command.{Job, command, seq};
-ghost use Rattle.ad_command.specs.Ending.{Answers, AsksFirstOf, IsReport, Leaves, Writes, fault_of};
-ghost use Rattle.ad_command.specs.declared.words.Task.TheVariants.{Seq};
+ghost use Rattle.ad_command.specs.Command.{Job, Lines, Work, command, job_of};
+ghost use Rattle.ad_command.specs.Ending.{Answers, AsksFirstOf, IsDone, Leaves, Writes, fault_of};
 ghost use Rattle.ad_lines.specs.declared.ready.ReadyStep.{ReadyStep};
 ghost use Rattle.ad_lines.specs.LineLaws.{run_of_seed};
 ghost use Rattle.ad_lines.specs.Opening.{opening_drawn, AreLoaded};
@@ -14,9 +12,9 @@ ghost use Rattle.ad_lines.specs.Ready.{ready_steps};
 ghost use Rattle.ad_script.specs.Script.{IsInRange};
 ghost use Rattle.ad_command.specs.Trouble.{status_of};
 
-use crate::load::{Loaded, load, script_of};
+use crate::load::{Loaded, load_images, script_of};
 use crate::trouble::{Trouble, exit_status};
-use crate::words::{Task, read_words};
+use crate::words::{Command, read_words};
 use ad_base::{Book, Failed, Files, Image, Moved, OutOfMemory, Row, Sink, write_all};
 use ad_lines::{Finished, LineRun, Missing, ReadyStep, ready_steps};
 use ad_report::report;
@@ -53,18 +51,19 @@ pub fn top_still<R: AllocGlobal, F: Files, K: Sink>(
     ensures status { result.status ≡ status_of result.fault }
 
     // The chain of the command comes to some end, which says what is left.
-    ensures serves { (end : Result Job Trouble)
+    ensures serves { (end : Result Work Trouble)
         × Serves (F.outside files.old) (F.outside files.new) (command (map string_bytes words.now)) end
-        × Leaves result.books.items result.moves.items result.ledger.items
-        (Rose (K.faults out.old) (K.faults out.new)) (K.faults out.new ≡ K.faults out.old) (out.new ≡ out.old)
-        (K.taken out.old) (K.taken out.new) result.fault end }
+        × Leaves (K.output out.old) (K.output out.new) result end }
+
+    // The sink is used for nothing but the report.
+    ensures unused { (t : Trouble) → result.fault ≡ Some t → t ≢ Trouble.Write → out.new ≡ out.old }
 
     // Where the files that it asks for are told, the fault is that of the chain over their bytes, but for want of memory,
     // for a failed read of one of them, and for a failed write of the report; and the names asked for are the chain's, or the first of them.
-    ensures told { (bytes : List ℕ → List ℕ) (names : List (List ℕ)) (due : Result Job Trouble)
+    ensures told { (bytes : List ℕ → List ℕ) (names : List (List ℕ)) (due : Result Work Trouble)
         → Gives bytes (command (map string_bytes words.now)) names due → AreTold (F.outside files.old).told bytes names
         → Answers result.fault (fault_of due) names }
-    ensures asks { (bytes : List ℕ → List ℕ) (names : List (List ℕ)) (due : Result Job Trouble)
+    ensures asks { (bytes : List ℕ → List ℕ) (names : List (List ℕ)) (due : Result Work Trouble)
         → Gives bytes (command (map string_bytes words.now)) names due → AreTold (F.outside files.old).told bytes names
         → AsksFirstOf (F.outside files.old).asked (F.outside files.new).asked names }
 {
@@ -106,8 +105,7 @@ fn written<K: Sink>(prepared: Prepared, out: &mut K) -> Ended
     ensures books { result.books.items ≡ prepared.books.items }
     ensures moves { result.moves.items ≡ prepared.moves.items }
     ensures ledger { result.ledger.items ≡ prepared.ledger.items }
-    ensures writes { Writes (Rose (K.faults out.old) (K.faults out.new)) (K.faults out.new ≡ K.faults out.old)
-        (K.taken out.old) (K.taken out.new) result.fault prepared.text.items }
+    ensures writes { Writes (K.output out.old) (K.output out.new) result.fault prepared.text.items }
 {
     let fault = match write_all(out, &prepared.text) {
         Ok(()) => None,
@@ -124,14 +122,14 @@ fn written<K: Sink>(prepared: Prepared, out: &mut K) -> Ended
 
 /// Serves the chain of the command, does its job, and makes the report.
 fn prepare<F: Files>(alloc: Global, words: &[String], files: &mut F) -> Result<Prepared, Trouble>
-    ensures { (end : Result Job Trouble) × Serves (F.outside files.old) (F.outside files.new) (command (map string_bytes words.now)) end
-        × MatchResult result (λ p. (job : Job) × (end ≡ Ok job) × IsReport job p.books.items p.moves.items p.ledger.items p.text.items) (λ t. end ≡ Err t) }
+    ensures { (end : Result Work Trouble) × Serves (F.outside files.old) (F.outside files.new) (command (map string_bytes words.now)) end
+        × MatchResult result (λ p. (work : Work) × (end ≡ Ok work) × IsDone work (record { books = map contents_of p.books.items; moves = p.moves.items; rows = p.ledger.items; text = p.text.items })) (λ t. end ≡ Err t) }
 {
     let Some(command) = read_words(words) else {
         return Err(Trouble::Usage);
     };
-    match command.task {
-        Task::Seq => seq(alloc, files, command.operand, command.seed, command.fuel),
+    match command {
+        Command::Seq { script, seed, fuel } => seq(alloc, files, script, seed, fuel),
     }
 }
 
@@ -139,16 +137,15 @@ fn prepare<F: Files>(alloc: Global, words: &[String], files: &mut F) -> Result<P
 fn seq<F: Files>(
     alloc: Global,
     files: &mut F,
-    operand: &str,
+    script: &str,
     seed: u64,
     fuel: u64,
 ) -> Result<Prepared, Trouble>
-    ensures { (end : Result Job Trouble) × Serves (F.outside files.old) (F.outside files.new)
-        (seq (record { task = Seq; operand = operand.now; seed = seed; fuel = fuel })) end
-        × MatchResult result (λ p. (job : Job) × (end ≡ Ok job) × IsReport job p.books.items p.moves.items p.ledger.items p.text.items) (λ t. end ≡ Err t) }
+    ensures { (end : Result Job Trouble) × Serves (F.outside files.old) (F.outside files.new) (job_of script.now seed fuel) end
+        × MatchResult result (λ p. (job : Job) × (end ≡ Ok job) × IsDone (Lines job) (record { books = map contents_of p.books.items; moves = p.moves.items; rows = p.ledger.items; text = p.text.items })) (λ t. end ≡ Err t) }
 {
-    let script = script_of(alloc, files, operand)?;
-    let loaded = load(alloc, files, &script, seed)?;
+    let script = script_of(alloc, files, script)?;
+    let loaded = load_images(alloc, files, &script, seed)?;
     run(alloc, &script, loaded, fuel)
 }
 
@@ -159,8 +156,8 @@ fn run(alloc: Global, script: &Script, loaded: Loaded, fuel: u64) -> Result<Prep
     requires loaded { AreLoaded loaded.placer.seed script.now.workers loaded.images.items }
     requires each { length script.now.loads ≡ length loaded.images.items }
     ensures done { IfOk result (λ p. (steps : List ReadyStep) × (ready_steps loaded.images.items script.now.steps ≡ Ok steps)
-        × IsReport (record { seed = loaded.placer.seed; fuel = fuel; script = script.now; images = loaded.images.items; steps = steps })
-        p.books.items p.moves.items p.ledger.items p.text.items) }
+        × IsDone (Lines (record { seed = loaded.placer.seed; fuel = fuel; script = script.now; images = loaded.images.items; steps = steps }))
+        (record { books = map contents_of p.books.items; moves = p.moves.items; rows = p.ledger.items; text = p.text.items })) }
     ensures fault { IfErr result (λ t. ((line : ℕ) × (ready_steps loaded.images.items script.now.steps ≡ Err line) × (t ≡ Trouble.NoExport line)) ⊎ (t ≡ Trouble.Memory)) }
 {
     let steps = ready(alloc, &loaded.images, script)?;
@@ -170,12 +167,12 @@ fn run(alloc: Global, script: &Script, loaded: Loaded, fuel: u64) -> Result<Prep
         script,
         &finished.books,
         &finished.moves,
-        &finished.mappings,
+        &finished.rows,
     )?;
     Ok(Prepared {
         books: finished.books,
         moves: finished.moves,
-        ledger: finished.mappings,
+        ledger: finished.rows,
         text,
     })
 }
@@ -207,7 +204,7 @@ fn run_lines(
     requires ready { ready_steps loaded.images.items script.now.steps ≡ Ok steps.now }
     ensures books { IfOk result (λ end. map contents_of end.books.items ≡ map (λ m. m.book) (run_of_seed loaded.placer.seed script.now.workers loaded.images.items fuel steps.now).modules) }
     ensures moves { IfOk result (λ end. end.moves.items ≡ (run_of_seed loaded.placer.seed script.now.workers loaded.images.items fuel steps.now).placement.moves) }
-    ensures mappings { IfOk result (λ end. end.mappings.items ≡ (run_of_seed loaded.placer.seed script.now.workers loaded.images.items fuel steps.now).placement.mappings) }
+    ensures rows { IfOk result (λ end. end.rows.items ≡ (run_of_seed loaded.placer.seed script.now.workers loaded.images.items fuel steps.now).placement.rows) }
 {
     let Loaded { images, placer } = loaded;
     let mut run = LineRun::open(alloc, images, script.workers, placer, steps, fuel)?;

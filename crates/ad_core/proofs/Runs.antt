@@ -5,29 +5,29 @@ use Rattle.std.proofs.lemmas.Bool.Decides.{nat_tests}
 use Rattle.ad_base.specs.declared.layout.TheConstants.{GATE}
 use Rattle.ad_base.specs.declared.end.End.{End}
 use Rattle.ad_base.specs.declared.end.End.TheVariants.{Returned, Fuel}
-use Rattle.ad_isa.specs.Step.{State, Goes, Ends}
+use Rattle.ad_isa.specs.Step.{Ends, Finishes, Goes, State}
 use Rattle.ad_core.specs.Segments.{Segment, Access}
-use Rattle.ad_core.specs.Plain.{Memory, Outcome, run, continue, plain_step}
+use Rattle.ad_core.specs.Plain.{Memory, PlainOutcome, plain_run, continue, plain_step}
 use Rattle.ad_core.specs.Code.{RunsTo, state_of, next_of}
 use Rattle.ad_core.specs.declared.hart.Hart.{Hart}
 
 -- at the gate a run has ended, whatever fuel is left
 pub run_at_gate : (fuel : ℕ) (h : State ℕ) (m : Memory) → h.pc ≡ GATE
-    → run fuel h m ≡ record { end = Returned (slice_index h.registers 10); memory = m }
-unfolding run
+    → plain_run fuel h m ≡ record { end = Returned (slice_index h.registers 10); memory = m }
+unfolding plain_run
 run_at_gate zero h m e = grind (arith, nat_tests)
 run_at_gate (suc fuel) h m e = grind (arith, nat_tests)
 
 -- elsewhere it ends without fuel
 pub run_spent : (h : State ℕ) (m : Memory) → (h.pc ≡ GATE → ⊥)
-    → run 0 h m ≡ record { end = Fuel; memory = m }
-unfolding run
+    → plain_run 0 h m ≡ record { end = Fuel; memory = m }
+unfolding plain_run
 run_spent h m away = grind (arith, nat_tests)
 
 -- and else it makes a step
 pub run_step : (fuel : ℕ) (h : State ℕ) (m : Memory) → (h.pc ≡ GATE → ⊥)
-    → run (suc fuel) h m ≡ continue (run fuel) (plain_step h m)
-unfolding run
+    → plain_run (suc fuel) h m ≡ continue (plain_run fuel) (plain_step h m)
+unfolding plain_run
 run_step fuel h m away = grind (arith, nat_tests)
 
 -- a memory by its parts
@@ -36,24 +36,24 @@ parts segments notes queue accesses = record { segments = segments; notes = note
 
 -- the parts of an outcome that is known
 RunsTo_from : {T : Type 0} (segments : List Segment) (notes queue : List ℕ) (accesses : List Access)
-    (track : T) (rule : T → Access → T) (before : T) (answer : End) (outcome : Outcome)
+    (track : T) (rule : T → Access → T) (before : T) (answer : End) (outcome : PlainOutcome)
     → record { end = answer; memory = parts segments notes queue accesses } ≡ outcome
     → track ≡ fold rule before accesses
     → RunsTo segments notes queue track rule before answer outcome
 RunsTo_from segments notes queue accesses track rule before answer outcome e t = record {
-  end = ap (λ (o : Outcome). o.end) e;
-  segments = ap (λ (o : Outcome). o.memory.segments) e;
-  notes = ap (λ (o : Outcome). o.memory.notes) e;
-  queue = ap (λ (o : Outcome). o.memory.queue) e;
-  track = t ∙ ap (λ (o : Outcome). fold rule before o.memory.accesses) e;
+  end = ap (λ (o : PlainOutcome). o.end) e;
+  segments = ap (λ (o : PlainOutcome). o.memory.segments) e;
+  notes = ap (λ (o : PlainOutcome). o.memory.notes) e;
+  queue = ap (λ (o : PlainOutcome). o.memory.queue) e;
+  track = t ∙ ap (λ (o : PlainOutcome). fold rule before o.memory.accesses) e;
 }
 
 module _ {T : Type 0} (segments : List Segment) (notes queue : List ℕ) (accesses : List Access)
-    (track : T) (rule : T → Access → T) (before : T) (left : ℕ) (h : State ℕ) (outcome : Outcome) where
+    (track : T) (rule : T → Access → T) (before : T) (left : ℕ) (h : State ℕ) (outcome : PlainOutcome) where
   -- what a run that has reached the gate comes to
   pub runs_to_gate : (a : ℕ) → h.pc ≡ GATE → a ≡ slice_index h.registers 10
       → track ≡ fold rule before accesses
-      → run left h (parts segments notes queue accesses) ≡ outcome
+      → plain_run left h (parts segments notes queue accesses) ≡ outcome
       → RunsTo segments notes queue track rule before (Returned a) outcome
   runs_to_gate a e r t o =
       let m = parts segments notes queue accesses in
@@ -63,36 +63,36 @@ module _ {T : Type 0} (segments : List Segment) (notes queue : List ℕ) (access
   -- what a run comes to whose fuel is spent
   pub comes_spent : left ≡ 0 → (h.pc ≡ GATE → ⊥)
       → track ≡ fold rule before accesses
-      → run left h (parts segments notes queue accesses) ≡ outcome
+      → plain_run left h (parts segments notes queue accesses) ≡ outcome
       → RunsTo segments notes queue track rule before Fuel outcome
   comes_spent z away t o =
       let m = parts segments notes queue accesses in
       RunsTo_from segments notes queue accesses track rule before Fuel outcome
-      (sym (run_spent h m away) ∙ (ap (λ n. run n h m) (sym z) ∙ o)) t
+      (sym (run_spent h m away) ∙ (ap (λ n. plain_run n h m) (sym z) ∙ o)) t
 
   -- what a run comes to whose next step ends the call
   pub comes_ended : (m : Memory) (answer : End) (n i : ℕ) → i < n → left ≡ n - i
       → (h.pc ≡ GATE → ⊥)
-      → plain_step h m ≡ Ends answer (parts segments notes queue accesses)
+      → plain_step h m ≡ Finishes (Ends answer) (parts segments notes queue accesses)
       → track ≡ fold rule before accesses
-      → run left h m ≡ outcome
+      → plain_run left h m ≡ outcome
       → RunsTo segments notes queue track rule before answer outcome
   comes_ended m answer n i below l away e t o =
       let l' : left ≡ suc (n - (i + 1)) = omega arith in
       RunsTo_from segments notes queue accesses track rule before answer outcome
-      (sym (ap (λ k. run k h m) l' ∙ (run_step (n - (i + 1)) h m away ∙ ap (continue (run (n - (i + 1)))) e)) ∙ o) t
+      (sym (ap (λ k. plain_run k h m) l' ∙ (run_step (n - (i + 1)) h m away ∙ ap (continue (plain_run (n - (i + 1)))) e)) ∙ o) t
 
 -- a run goes on from where its next step leads
-pub run_goes : (n i : ℕ) (h : State ℕ) (m m' : Memory) (hart : Hart) (answer : Option End) (outcome : Outcome)
+pub run_goes : (n i : ℕ) (h : State ℕ) (m m' : Memory) (hart : Hart) (answer : Option End) (outcome : PlainOutcome)
     → i < n → (h.pc ≡ GATE → ⊥)
     → plain_step h m ≡ next_of answer hart m' → answer ≡ None
-    → run (n - i) h m ≡ outcome
-    → run (n - (i + 1)) (state_of hart) m' ≡ outcome
+    → plain_run (n - i) h m ≡ outcome
+    → plain_run (n - (i + 1)) (state_of hart) m' ≡ outcome
 run_goes n i h m m' hart answer outcome below away e none o =
     let fuel = n - (i + 1) in
     let left : n - i ≡ suc fuel = omega arith in
     let goes : plain_step h m ≡ Goes (state_of hart) m' = e ∙ ap (λ r. next_of r hart m') none in
-    sym (ap (λ k. run k h m) left ∙ (run_step fuel h m away ∙ ap (continue (run fuel)) goes)) ∙ o
+    sym (ap (λ k. plain_run k h m) left ∙ (run_step fuel h m away ∙ ap (continue (plain_run fuel)) goes)) ∙ o
 
 -- a track over the accesses of one more step
 pub track_on : {T : Type 0} (rule : T → Access → T) (before : T) (accesses more : List Access) (track after : T)

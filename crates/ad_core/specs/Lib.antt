@@ -1,5 +1,6 @@
 pub mod Segments
 pub mod Plain
+pub mod Steps
 pub mod Code
 pub mod Image
 pub mod Turn

@@ -1,22 +1,14 @@
 -- The plain machine: the table's rows over 64-bit numbers and a list of segments.
-use Rattle.std.specs.Prelude.{ℕ, zero, suc, ◌+◌, ◌-◌, ◌%◌, ◌^◌, ◌==◌, if◌then◌else◌, List, [], ◌∷◌, ◌++◌, take, replicate, slice_index, Result, Ok, Err}
+use Rattle.std.specs.Prelude.{ℕ, zero, suc, ◌%◌, ◌==◌, if◌then◌else◌, List, [], ◌∷◌, ◌++◌, take, replicate, slice_index, Result, Ok, Err}
 use Rattle.ad_base.specs.declared.layout.TheConstants.{FETCH_BYTES, GATE}
 use Rattle.ad_base.specs.declared.end.End.{End}
 use Rattle.ad_base.specs.declared.end.End.TheVariants as ends
-use Rattle.ad_isa.specs.Domain.{Domain}
-use Rattle.ad_isa.specs.Step.{State, Storage, Next, Goes, Ends, step}
+use Rattle.ad_isa.specs.Numbers.{numbers}
+use Rattle.ad_isa.specs.Step.{Aborts, Ends, Finish, Finishes, Goes, Next, Returns, State, Storage, step}
+use Rattle.ad_isa.specs.Table.{decoded}
 use Rattle.ad_core.specs.declared.bus.Fetched.{Fetched}
 use Rattle.ad_core.specs.declared.bus.Fetched.TheVariants.{Word, Gate, Fault, Denied}
 use Rattle.ad_core.specs.Segments.{Segment, Access, fetched, accesses_of_fetch}
-
--- the numbers modulo 2^64, whose operations always answer
-abbrev pub numbers : Domain ℕ ⊥
-numbers = record {
-  number = λ n. n;
-  sum = λ a b. Ok ((a + b) % 2 ^ 64);
-  even = λ a. Ok (a - a % 2);
-  offset = λ a. a;
-}
 
 -- what the machine keeps beside its registers: the segments, the notes, the device queue, and each
 -- access so far
@@ -37,6 +29,7 @@ word_or_end Denied = Err ends.Denied
 abbrev pub segments_storage : Storage ℕ Memory ⊥
 segments_storage = record {
   fetch = λ m at. Ok (word_or_end (fetched m.segments at), record m { accesses = m.accesses ++ accesses_of_fetch at });
+  decode = λ word. Ok (decoded word);
 }
 
 -- an answer for which there is no reason to be missing
@@ -47,25 +40,31 @@ certain (Err none) = absurd none
 unfoldable pub plain_step : State ℕ → Memory → Next ℕ Memory
 plain_step h m = certain (step numbers segments_storage h m)
 
+-- the end of a call that ended so
+abbrev pub end_of : Finish ℕ → End
+end_of (Returns n) = ends.Returned n
+end_of (Aborts n) = ends.Abort n
+end_of (Ends end) = end
+
 -- how a call ended, and what it left
-pub record Outcome : Type 0 where
+pub record PlainOutcome : Type 0 where
   pub end : End
   pub memory : Memory
 
 -- what follows a step
-abbrev pub continue : (State ℕ → Memory → Outcome) → Next ℕ Memory → Outcome
+abbrev pub continue : (State ℕ → Memory → PlainOutcome) → Next ℕ Memory → PlainOutcome
 continue rest (Goes h m) = rest h m
-continue rest (Ends end m) = record { end = end; memory = m }
+continue rest (Finishes finish m) = record { end = end_of finish; memory = m }
 
 -- at the gate the call returns what a0 holds
-abbrev pub unless_at_gate : State ℕ → Memory → Outcome → Outcome
+abbrev pub unless_at_gate : State ℕ → Memory → PlainOutcome → PlainOutcome
 unless_at_gate h m otherwise = if h.pc == GATE then record { end = ends.Returned (slice_index h.registers 10); memory = m } else otherwise
 
 -- A run of so many steps at most. Before each the gate is looked for, and once more where the fuel
 -- is spent.
-unfoldable pub run : ℕ → State ℕ → Memory → Outcome
-run zero h m = unless_at_gate h m (record { end = ends.Fuel; memory = m })
-run (suc fuel) h m = unless_at_gate h m (continue (run fuel) (plain_step h m))
+unfoldable pub plain_run : ℕ → State ℕ → Memory → PlainOutcome
+plain_run zero h m = unless_at_gate h m (record { end = ends.Fuel; memory = m })
+plain_run (suc fuel) h m = unless_at_gate h m (continue (plain_run fuel) (plain_step h m))
 
 -- the registers at the start: ra is the gate, sp is given, a0 to a7 hold the arguments, and all
 -- others are 0
@@ -73,9 +72,9 @@ unfoldable pub first_registers : List ℕ → ℕ → List ℕ
 first_registers args sp = (0 ∷ GATE ∷ sp ∷ replicate 7 0) ++ take 8 (args ++ replicate 8 0) ++ replicate 14 0
 
 -- a call of an entry: one that isn't a multiple of a fetch's bytes ends before any step
-unfoldable pub plain_call : ℕ → ℕ → List ℕ → ℕ → Memory → Outcome
+unfoldable pub plain_call : ℕ → ℕ → List ℕ → ℕ → Memory → PlainOutcome
 plain_call fuel entry args sp m =
-    if entry % FETCH_BYTES == 0 then run fuel (record { registers = first_registers args sp; pc = entry }) m
+    if entry % FETCH_BYTES == 0 then plain_run fuel (record { registers = first_registers args sp; pc = entry }) m
     else record { end = ends.Misaligned; memory = m }
 
 -- what a call finds: no access so far

@@ -9,7 +9,7 @@ use Rattle.ad_base.specs.declared.place.Place.{Place}
 use Rattle.ad_base.specs.Book.{Contents}
 use Rattle.ad_base.specs.Place.{base_of}
 use Rattle.ad_core.specs.Segments.{Segment, bytes_of_role, is_data, is_fixed_data}
-use Rattle.ad_core.specs.Plain.{Outcome, at_start, plain_call}
+use Rattle.ad_core.specs.Plain.{PlainOutcome, at_start, plain_call}
 use Rattle.ad_core.specs.Image.{segments_of, fresh_stack}
 
 -- the offset of an export, by its number
@@ -21,15 +21,15 @@ abbrev pub reached : Image → Contents → Place → Place → List Segment
 reached i book under stack = segments_of i under stack fresh_stack book.fixed book.writable
 
 -- the call of an entry at an offset of the movable part, with no note so far and the book's queue
-abbrev pub plain : Image → ℕ → Contents → Place → Place → ℕ → List ℕ → Outcome
+abbrev pub plain : Image → ℕ → Contents → Place → Place → ℕ → List ℕ → PlainOutcome
 plain i fuel book under stack offset args =
     plain_call fuel ((base_of under + offset) % 2 ^ 64) args (base_of stack + STACK_PAGES * PAGE_BYTES) (at_start (reached i book under stack) [] book.device)
 
 -- the data of the movable part, and of the immovable one, that a call left
-abbrev pub writable_of : Outcome → List ℕ
+abbrev pub writable_of : PlainOutcome → List ℕ
 writable_of o = bytes_of_role is_data o.memory.segments
 
-abbrev pub fixed_data_of : Outcome → List ℕ
+abbrev pub fixed_data_of : PlainOutcome → List ℕ
 fixed_data_of o = bytes_of_role is_fixed_data o.memory.segments
 
 -- The book after is the book before with this entry behind the others. The entry's end and notes, and the data

@@ -1,14 +1,18 @@
 //! The registers of the machine, and what an instruction does to them.
 
-ghost use Rattle.std.specs.Prelude.{◌≡◌, ◌<◌, ◌%◌, slice_index, Ok, Some, IfNone};
-ghost use Rattle.ad_isa.specs.Table.{HasRegisters};
-ghost use Rattle.ad_isa.specs.Rows.{register, with_register, operation, Writes, Jumps};
-ghost use Rattle.ad_isa.specs.Step.{execute, settle};
-ghost use Rattle.ad_core.specs.Plain.{numbers, first_registers, Memory, segments_storage};
-ghost use Rattle.ad_core.specs.Code.{state_of, next_of};
+ghost use Rattle.std.specs.Int.{cast_unsigned, w64};
+ghost use Rattle.std.specs.Prelude.{if◌then◌else◌, ◌+◌, ◌^◌, ◌≡◌, ◌<◌, ◌%◌, slice_index, Ok, Some, IfNone};
+ghost use Rattle.ad_isa.specs.Words.{HasWord};
+ghost use Rattle.ad_isa.specs.Numbers.{numbers};
+ghost use Rattle.ad_isa.specs.Rows.{effect, register, with_register};
+ghost use Rattle.ad_isa.specs.Rows as rows;
+ghost use Rattle.ad_isa.specs.Step.{execute, settle, to_target};
+ghost use Rattle.ad_core.specs.Plain.{first_registers, Memory, segments_storage};
+ghost use Rattle.ad_core.specs.Code.{effect_of, state_of, next_of, IsInRange};
 
+use crate::effect::Effect;
 use ad_base::{Args, End, FETCH_BYTES, GATE, INSTRUCTION_BYTES};
-use ad_isa::{Alu, Instr};
+use ad_isa::{Instr, holds, operation, word_operation};
 
 /// Where a0, the first of the registers for arguments, stands.
 const FIRST_ARGUMENT: usize = 10;
@@ -70,73 +74,150 @@ impl Hart {
         }
     }
 
-    /// Makes the step of an instruction, or gives the end that it comes to.
+    /// What an instruction comes to, which the instruction at `next` follows.
     #[tactic(auto, unfolding(ad_isa::specs::Rows::effect))]
-    pub fn execute(&mut self, instr: Instr) -> Option<End>
-        requires registers { HasRegisters instr }
-        requires aligned { self.old.pc % FETCH_BYTES ≡ 0 }
-        ensures aligned { IfNone result (self.new.pc % FETCH_BYTES ≡ 0) }
-        ensures next { (m : Memory)
-            → execute numbers segments_storage (state_of self.old) m (Some instr)
-            ≡ Ok (next_of result self.new m) }
+    fn effect(&self, instr: Instr, next: u64) -> Effect
+        requires { HasWord instr }
+        ensures is { effect numbers self.now.registers self.now.pc next instr
+            ≡ Ok (effect_of result) }
+        ensures range { IsInRange result }
     {
         match instr {
-            Instr::Auipc { rd, imm } => {
-                let value = self.pc.wrapping_add(imm.cast_unsigned());
-                self.write(rd, value)
-            }
-            Instr::OpImm { op, rd, rs1, imm } => {
-                let value = operation(op, self.get(rs1), imm.cast_unsigned());
-                self.write(rd, value)
-            }
-            Instr::Op { op, rd, rs1, rs2 } => {
-                let value = operation(op, self.get(rs1), self.get(rs2));
-                self.write(rd, value)
-            }
-            Instr::Jalr { rd, rs1, imm } => {
-                let target = self.get(rs1).wrapping_add(imm.cast_unsigned()) & !1;
-                let link = self.pc.wrapping_add(INSTRUCTION_BYTES);
-                self.jump(rd, link, target)
-            }
+            Instr::Lui { rd, imm } => Effect::Writes {
+                rd,
+                value: imm.cast_unsigned(),
+            },
+            Instr::Auipc { rd, imm } => Effect::Writes {
+                rd,
+                value: self.pc.wrapping_add(imm.cast_unsigned()),
+            },
+            Instr::Jal { rd, imm } => Effect::Jumps {
+                rd,
+                link: next,
+                target: self.pc.wrapping_add(imm.cast_unsigned()),
+            },
+            Instr::Jalr { rd, rs1, imm } => Effect::Jumps {
+                rd,
+                link: next,
+                target: self.get(rs1).wrapping_add(imm.cast_unsigned()) & !1,
+            },
+            Instr::Branch {
+                test,
+                rs1,
+                rs2,
+                imm,
+            } => self.branch(holds(test, self.get(rs1), self.get(rs2)), imm),
+            Instr::Load {
+                size,
+                signed,
+                rd,
+                rs1,
+                imm,
+            } => Effect::Loads {
+                size,
+                signed,
+                rd,
+                address: self.get(rs1).wrapping_add(imm.cast_unsigned()),
+            },
+            Instr::Store {
+                size,
+                rs1,
+                rs2,
+                imm,
+            } => Effect::Stores {
+                size,
+                value: self.get(rs2),
+                address: self.get(rs1).wrapping_add(imm.cast_unsigned()),
+            },
+            Instr::OpImm { op, rd, rs1, imm } => Effect::Writes {
+                rd,
+                value: operation(op, self.get(rs1), imm.cast_unsigned()),
+            },
+            Instr::OpImm32 { op, rd, rs1, imm } => Effect::Writes {
+                rd,
+                value: word_operation(op, self.get(rs1), imm.cast_unsigned()),
+            },
+            Instr::Op { op, rd, rs1, rs2 } => Effect::Writes {
+                rd,
+                value: operation(op, self.get(rs1), self.get(rs2)),
+            },
+            Instr::Op32 { op, rd, rs1, rs2 } => Effect::Writes {
+                rd,
+                value: word_operation(op, self.get(rs1), self.get(rs2)),
+            },
+            Instr::Fence => Effect::Passes,
+            Instr::Ecall => Effect::Stops(End::Ecall),
+            Instr::Ebreak => Effect::Stops(End::Ebreak),
         }
     }
 
-    /// Gives a register a value, and goes on to the next instruction.
-    fn write(&mut self, rd: u8, value: u64) -> Option<End>
-        requires register { rd < 32 }
+    /// A jump by an immediate where a comparison holds.
+    fn branch(&self, taken: bool, imm: i64) -> Effect
+        ensures is { effect_of result
+            ≡ (if taken then rows.Branches ((self.now.pc + cast_unsigned w64 imm) % 2 ^ 64)
+            else rows.Passes) }
+        ensures range { IsInRange result }
+    {
+        if taken {
+            Effect::Branches {
+                target: self.pc.wrapping_add(imm.cast_unsigned()),
+            }
+        } else {
+            Effect::Passes
+        }
+    }
+
+    /// Makes the step of an instruction, or gives the end that it comes to.
+    pub fn execute(&mut self, instr: Instr) -> Option<End>
+        requires has_word { HasWord instr }
         requires aligned { self.old.pc % FETCH_BYTES ≡ 0 }
         ensures aligned { IfNone result (self.new.pc % FETCH_BYTES ≡ 0) }
         ensures next { (m : Memory)
-            → settle numbers segments_storage (state_of self.old) m (Writes rd value)
+            → execute numbers segments_storage (state_of self.old) m INSTRUCTION_BYTES (Some instr)
             ≡ Ok (next_of result self.new m) }
     {
-        self.set(rd, value);
-        self.pc = self.pc.wrapping_add(INSTRUCTION_BYTES);
-        None
+        let next = self.pc.wrapping_add(INSTRUCTION_BYTES);
+        let effect = self.effect(instr, next);
+        self.settle(effect, next)
     }
 
-    /// Gives a register a value, and goes on to a target, which must be a multiple of the bytes of a fetch.
-    fn jump(&mut self, rd: u8, link: u64, target: u64) -> Option<End>
-        requires { rd < 32 }
+    /// Makes an effect, where an instruction follows that is at `next`, or gives the end that it comes to.
+    fn settle(&mut self, effect: Effect, next: u64) -> Option<End>
+        requires range { IsInRange effect }
+        requires aligned { next % FETCH_BYTES ≡ 0 }
         ensures aligned { IfNone result (self.new.pc % FETCH_BYTES ≡ 0) }
         ensures next { (m : Memory)
-            → settle numbers segments_storage (state_of self.old) m (Jumps rd link target)
-            ≡ Ok (next_of result self.new m) }
+            → settle numbers segments_storage (state_of self.old) m next (effect_of effect)
+            ≡ next_of result self.new m }
+    {
+        match effect {
+            Effect::Passes => self.go(next),
+            Effect::Writes { rd, value } => {
+                self.set(rd, value);
+                self.go(next)
+            }
+            Effect::Jumps { rd, link, target } => {
+                self.set(rd, link);
+                self.go(target)
+            }
+            Effect::Branches { target } => self.go(target),
+            Effect::Loads { .. } => Some(End::Illegal),
+            Effect::Stores { .. } => Some(End::Illegal),
+            Effect::Stops(end) => Some(end),
+        }
+    }
+
+    /// Goes on to a target, which must be a multiple of the bytes of a fetch.
+    fn go(&mut self, target: u64) -> Option<End>
+        ensures aligned { IfNone result (self.new.pc % FETCH_BYTES ≡ 0) }
+        ensures next { (m : Memory)
+            → to_target numbers segments_storage self.old.registers m target
+            ≡ next_of result self.new m }
     {
         if target % FETCH_BYTES != 0 {
             return Some(End::Misaligned);
         }
-        self.set(rd, link);
         self.pc = target;
         None
-    }
-}
-
-/// What an operation gives of two numbers.
-fn operation(op: Alu, a: u64, b: u64) -> u64
-    ensures { operation numbers op a b ≡ Ok result }
-{
-    match op {
-        Alu::Add => a.wrapping_add(b),
     }
 }

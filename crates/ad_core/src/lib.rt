@@ -2,6 +2,7 @@
 #![tactic(auto)]
 
 mod bus;
+mod effect;
 mod hart;
 mod laws;
 mod run;

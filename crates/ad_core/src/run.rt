@@ -2,7 +2,7 @@
 
 ghost use Rattle.std.specs.Prelude.{◌≡◌, ◌≢◌, ◌%◌, ◌++◌, fold, List, IfNone};
 ghost use Rattle.ad_core.specs.Segments.{Access, accesses_of_fetch, track_after_fetch};
-ghost use Rattle.ad_core.specs.Plain.{plain_step, plain_call, run, at_start};
+ghost use Rattle.ad_core.specs.Plain.{plain_step, plain_call, plain_run, at_start};
 ghost use Rattle.ad_core.specs.Code.{state_of, next_of, RunsTo};
 
 use crate::bus::{Bus, Fetched};
@@ -50,7 +50,7 @@ fn run<B: Bus>(bus: &mut B, hart: &mut Hart, fuel: u64) -> End
     requires { hart.old.pc % FETCH_BYTES ≡ 0 }
     ensures { RunsTo (B.segments bus.new) (B.notes bus.new) (B.queue bus.new)
         (B.track bus.new) B.rule (B.track bus.old) result
-        (run fuel (state_of hart.old)
+        (plain_run fuel (state_of hart.old)
         (at_start (B.segments bus.old) (B.notes bus.old) (B.queue bus.old))) }
 {
     for _ in 0..fuel {

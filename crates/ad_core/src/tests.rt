@@ -61,6 +61,10 @@ fn calls_end_as_the_standard_has_it(rt: HostRuntime) {
     const OWN_ADDRESS: u32 = 0x00000517;
     const JUMP_TO_A0: u32 = 0x00050067;
     const RETURN: u32 = 0x00008067;
+    const MULH: u32 = 0x02b5_1533;
+    const MULHSU: u32 = 0x02b5_2533;
+    const MULHU: u32 = 0x02b5_3533;
+    const MAX: u64 = u64::MAX;
     for (words, a0, a1, entry, fuel, want) in [
         ([ADD, RETURN, 0, 0], 2, 3, BASE, 100, End::Returned(5)),
         (
@@ -86,6 +90,23 @@ fn calls_end_as_the_standard_has_it(rt: HostRuntime) {
             BASE,
             100,
             End::Returned(BASE),
+        ),
+        ([MULH, RETURN, 0, 0], MAX, MAX, BASE, 100, End::Returned(0)),
+        (
+            [MULHSU, RETURN, 0, 0],
+            MAX,
+            2,
+            BASE,
+            100,
+            End::Returned(MAX),
+        ),
+        (
+            [MULHU, RETURN, 0, 0],
+            MAX,
+            MAX,
+            BASE,
+            100,
+            End::Returned(MAX - 1),
         ),
         ([0; 4], 0, 0, BASE, 100, End::Illegal),
         ([JUMP_TO_A0, 0, 0, 0], 6, 0, BASE, 100, End::Misaligned),

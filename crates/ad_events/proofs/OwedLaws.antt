@@ -3,7 +3,7 @@ use Rattle.std.proofs.Common.{◌≡◌, ℕ, ◌+◌, ◌-◌, ◌^◌, ◌<◌
 use Rattle.std.proofs.lemmas.Bool.{cases_eq, cases_lt, cases_Bool}
 use Rattle.std.proofs.lemmas.Bool.Decides.{nat_tests}
 use Rattle.std.proofs.lemmas.List.Sums.{count_by-le-length}
-use Rattle.ad_events.specs.Owed.{State, Passage, Ahead, Pushed, Settled, Seat, Away, Inside, Paying, Step, Open, Push, Settle, Enter, Leave, Pay, seat_at, inside_of, pushed_on, count_of, passage_of, last_batch, IsOpened, owes, owes_on, owers, share, share_of, slot_share, is_inside, is_passed, slot_of, SettledEverywhere, WaitsFor, due_of, opening, run, MayRun}
+use Rattle.ad_events.specs.Owed.{State, Passage, Ahead, Pushed, Settled, Seat, Away, Inside, Paying, Step, Open, Push, Settle, Enter, Leave, Pay, seat_at, inside_of, pushed_on, count_of, passage_of, last_batch, IsOpened, owes, owes_on, owers, share, share_of, slot_share, is_inside, is_passed, slot_of, SettledEverywhere, WaitsFor, due_of, owed_opening, owed_run, MayRun}
 use Rattle.ad_events.specs.OwedInvariant.{IsSized, SeatFits, PassageFits, Holds}
 use Rattle.ad_events.specs.OwedLaws.{NothingBelowZero, WordsFit, NobodyOwes, ZeroIsDone, SlotsTell, InsideIsCounted, QuietIsZero}
 use Rattle.ad_events.proofs.SumLemmas.{sum_below-at, sum_below-const, sum_below-le, count_by-at, count_by-none}
@@ -14,9 +14,9 @@ use Rattle.ad_events.proofs.PayStep.{pay-within}
 use Rattle.ad_events.proofs.OwedRuns.{Holds-run, Holds-opening}
 
 -- what holds wherever the invariant does holds after every run
-pub after_every_run : (Law : State → Type 0) → ((w : State) → Holds w → Law w) → (slots seats : ℕ) (steps : List Step) → IsSized slots seats → MayRun (opening slots seats) steps → Law (run (opening slots seats) steps)
+pub after_every_run : (Law : State → Type 0) → ((w : State) → Holds w → Law w) → (slots seats : ℕ) (steps : List Step) → IsSized slots seats → MayRun (owed_opening slots seats) steps → Law (owed_run (owed_opening slots seats) steps)
 after_every_run Law law slots seats steps sized may =
-    law _ (Holds-run (opening slots seats) (Holds-opening slots seats sized) steps may)
+    law _ (Holds-run (owed_opening slots seats) (Holds-opening slots seats sized) steps may)
 
 -- ---- nothing goes below zero
 

@@ -11,10 +11,10 @@ use Rattle.ad_events.specs.declared.event.Event.{Event}
 use Rattle.ad_events.specs.declared.event.Event.TheVariants as event
 use Rattle.ad_events.specs.Functions.{changed}
 use Rattle.ad_events.specs.Mapping.{rank_of, status_at, status_at-rank_of}
-use Rattle.ad_events.specs.World.{EventWorld, mapping_of, ended, put_status, effect, opening_entries, opening as opening_world}
+use Rattle.ad_events.specs.World.{EventWorld, mapping_of, ended, put_status, effect, opening_entries, world_opening}
 use Rattle.ad_events.specs.WorldLaws as worlds
 use Rattle.ad_events.specs.Owed as owing
-use Rattle.ad_events.specs.Reclaim.{Agent, Worker, Mover, ReclaimState, Step, Enter, Read, Leave, Pay, Map, Switch, Retire, Open, Push, Settle, Unmap, event_of, world_after, MayStep, after, run, MayRun}
+use Rattle.ad_events.specs.Reclaim.{Agent, Worker, Mover, ReclaimState, Step, Enter, Read, Leave, Pay, Map, Switch, Retire, Open, Push, Settle, Unmap, event_of, world_after, MayStep, after, reclaim_run, MayRun}
 use Rattle.ad_events.specs.ReclaimLaws.{events_of}
 use Rattle.ad_events.proofs.FiniteMaps.{get-insert_same, get-insert_other}
 use Rattle.ad_events.proofs.WorldReads.{map-here, map-other, switch-here, switch-elsewhere, read-here, read-other, leave-here, leave-other, enter-here, enter-other, entered-here, entered-other}
@@ -124,12 +124,12 @@ abbrev pub picture_run : Picture → List Event → Picture
 picture_run v [] = v
 picture_run v (e ∷ es) = picture_run (picture_after v e) es
 
-shows-events : (w : EventWorld) (v : Picture) → Shows w v → (es : List Event) → Shows (worlds.run w es) (picture_run v es)
+shows-events : (w : EventWorld) (v : Picture) → Shows w v → (es : List Event) → Shows (worlds.world_run w es) (picture_run v es)
 shows-events w v s [] = s
 shows-events w v s (e ∷ es) = shows-events (effect w e) (picture_after v e) (shows-effect w v s e) es
 
 -- what a run of the joined machine shows
-pub shows-run : (j : ReclaimState) (v : Picture) → Shows j.world v → (xs : List Step) → Shows (run j xs).world (picture_run v (events_of xs))
+pub shows-run : (j : ReclaimState) (v : Picture) → Shows j.world v → (xs : List Step) → Shows (reclaim_run j xs).world (picture_run v (events_of xs))
 shows-run j v s xs = subst (λ w. Shows w (picture_run v (events_of xs))) (sym (world-run j xs)) (shows-events j.world v s (events_of xs))
 
 -- ---- the opening
@@ -148,7 +148,7 @@ given-shows n (p ∷ ps) q =
 abbrev pub opening_picture : List ℕ → Picture
 opening_picture current = record { mapping = given 0 current; inside = λ _. None; entered = λ _. false }
 
-pub shows-opening : (workers : ℕ) (current : List ℕ) → Shows (opening_world workers current) (opening_picture current)
+pub shows-opening : (workers : ℕ) (current : List ℕ) → Shows (world_opening workers current) (opening_picture current)
 shows-opening workers current = record { mapping = given-shows 0 current; inside = map.get-empty nat_cmp; entered = set.contains-empty nat_cmp }
 
 -- ---- whether a step of the joined machine may be made, as a test that computes

@@ -8,7 +8,7 @@ use Rattle.ad_events.specs.Mapping.{rank_of}
 use Rattle.ad_events.specs.World.{status_of}
 use Rattle.ad_events.specs.Owed as owing
 use Rattle.ad_events.specs.Owed.{Away, Inside, Paying, Seat, Passage, Ahead, Pushed, Settled, seat_at, count_of, last_batch, passage_of, IsOpened, SettledEverywhere, IsIdle, IsInside, IsPaying, owes, WaitsFor, takes_from, answer}
-use Rattle.ad_events.specs.Reclaim.{Agent, Worker, Mover, ReclaimState, Step, Enter, Read, Leave, Pay, Map, Switch, Retire, Open, Push, Settle, Unmap, MayUnmap, MayStep, after, opening, run, MayRun}
+use Rattle.ad_events.specs.Reclaim.{Agent, Worker, Mover, ReclaimState, Step, Enter, Read, Leave, Pay, Map, Switch, Retire, Open, Push, Settle, Unmap, MayUnmap, MayStep, after, reclaim_opening, reclaim_run, MayRun}
 use Rattle.ad_events.specs.ReclaimInvariant.{Holds}
 use Rattle.ad_events.specs.ReclaimLaws.{maker_of, BringsToZero, IsQuiet, InIsInside, BatchIsTold, NoneAbove, AboveUntilOpen, BatchStays, Pinned, NotGoneInside, ZeroIsNoted, NotedByMaker, NotedStays, EachBroughtOnce, WhoZeroedMayUnmap, OnlyWhoZeroedUnmaps, GoneIsZeroed, NothingLeft, LeftByOwnSteps, UnmapsItsOwn, LeaveReturns, RetireReturns, QuietIsGone, events_of, owing_steps_of}
 use Rattle.ad_events.proofs.OwedReads.{last-after, slots-after, settle-passage, last-opened, idle-from_last}
@@ -80,7 +80,7 @@ batch-after j h (Unmap q a) may p b is = is
 pub batch_stays : (j : ReclaimState) → Holds j → BatchStays j
 batch_stays j h more may p b is = go j h more may p b is
   where
-    go : (j : ReclaimState) → Holds j → (more : List Step) → MayRun j more → (p b : ℕ) → j.batch p ≡ Some b → (run j more).batch p ≡ Some b
+    go : (j : ReclaimState) → Holds j → (more : List Step) → MayRun j more → (p b : ℕ) → j.batch p ≡ Some b → (reclaim_run j more).batch p ≡ Some b
     go j h [] may p b is = is
     go j h (x ∷ more) may p b is = go (after j x) (Holds-after j h x may.0) more may.1 p b (batch-after j h x may.0 p b is)
 
@@ -108,7 +108,7 @@ pub opened-step : (j : ReclaimState) → Holds j → (x : Step) → MayStep j x 
 opened-step j h x may b within = owed-after j h (λ w. b ≤ last_batch w) within (λ y may_owe. let last = last-after j.owed h.owed y may_owe in omega arith) x may
 
 -- in a run
-batch-earlier : (j : ReclaimState) → Holds j → (more : List Step) → MayRun j more → (p b : ℕ) → b ≤ last_batch j.owed → (run j more).batch p ≡ Some b → j.batch p ≡ Some b
+batch-earlier : (j : ReclaimState) → Holds j → (more : List Step) → MayRun j more → (p b : ℕ) → b ≤ last_batch j.owed → (reclaim_run j more).batch p ≡ Some b → j.batch p ≡ Some b
 batch-earlier j h [] may p b within is = is
 batch-earlier j h (x ∷ more) may p b within is =
     batch-before j x p b within (batch-earlier (after j x) (Holds-after j h x may.0) more may.1 p b (opened-step j h x may.0 b within) is)
@@ -170,7 +170,7 @@ noted-after j h (Push s) may b a is = is
 noted-after j h (Settle s) may b a is = note-stays j.owed h.owed j.zeroed (h.zero, h.zeroed) (owing.Settle s) may tt Mover b a is
 noted-after j h (Unmap p c) may b a is = is
 
-noted-run : (j : ReclaimState) → Holds j → (more : List Step) → MayRun j more → (b : ℕ) (a : Agent) → j.zeroed b ≡ Some a → (run j more).zeroed b ≡ Some a
+noted-run : (j : ReclaimState) → Holds j → (more : List Step) → MayRun j more → (b : ℕ) (a : Agent) → j.zeroed b ≡ Some a → (reclaim_run j more).zeroed b ≡ Some a
 noted-run j h [] may b a is = is
 noted-run j h (x ∷ more) may b a is = noted-run (after j x) (Holds-after j h x may.0) more may.1 b a (noted-after j h x may.0 b a is)
 
@@ -179,9 +179,9 @@ noted_stays j h more may b a is = noted-run j h more may b a is
 
 pub each_brought_once : EachBroughtOnce
 each_brought_once slots workers current steps sized differ may =
-    let j = opening slots workers current in
+    let j = reclaim_opening slots workers current in
     let h = Holds-opening slots workers current sized differ in
-    let k = run j steps in
+    let k = reclaim_run j steps in
     let at = Holds-run j h steps may in
     let same = owed-run j steps in
     let xs = may-run j h steps may in
@@ -223,16 +223,16 @@ last-rank Out l = absurd (omega arith)
 last-rank Retired l = absurd (omega arith)
 last-rank Gone l = refl
 
-pub gone-stays : (j : ReclaimState) → Holds j → (more : List Step) → MayRun j more → (p : ℕ) → status_of j.world p ≡ Some Gone → status_of (run j more).world p ≡ Some Gone
+pub gone-stays : (j : ReclaimState) → Holds j → (more : List Step) → MayRun j more → (p : ℕ) → status_of j.world p ≡ Some Gone → status_of (reclaim_run j more).world p ≡ Some Gone
 gone-stays j h more may p gone =
     let back = never_back j.world h.world (events_of more) (lawful-run j h more may) p Gone gone in
     ap (λ w. status_of w p) (world-run j more) ∙ back.1 ∙ ap (λ s. Some s) (last-rank back.0 back.2)
 
 -- what a run unmaps is gone at its end
-unmapped-gone : (j : ReclaimState) → Holds j → (more : List Step) → MayRun j more → (p : ℕ) (a : Agent) → Contains more (Unmap p a) → status_of (run j more).world p ≡ Some Gone
+unmapped-gone : (j : ReclaimState) → Holds j → (more : List Step) → MayRun j more → (p : ℕ) (a : Agent) → Contains more (Unmap p a) → status_of (reclaim_run j more).world p ≡ Some Gone
 unmapped-gone j h more may p a found = go j h more may found.0 found.1 found.2
   where
-    go : (j : ReclaimState) → Holds j → (more : List Step) → MayRun j more → (k : ℕ) → k < length more → get_or more k (Unmap p a) ≡ Unmap p a → status_of (run j more).world p ≡ Some Gone
+    go : (j : ReclaimState) → Holds j → (more : List Step) → MayRun j more → (k : ℕ) → k < length more → get_or more k (Unmap p a) ≡ Unmap p a → status_of (reclaim_run j more).world p ≡ Some Gone
     go j h [] may k l e = absurd (omega arith)
     go j h (x ∷ more) may zero l e =
         let here : MayStep j (Unmap p a) = subst (MayStep j) e may.0 in
@@ -241,7 +241,7 @@ unmapped-gone j h more may p a found = go j h more may found.0 found.1 found.2
     go j h (x ∷ more) may (suc k) l e = go (after j x) (Holds-after j h x may.0) more may.1 k (omega arith) e
 
 -- an agent that unmaps its own has nothing left again
-pub nothing-left : (j : ReclaimState) → Holds j → (more : List Step) → MayRun j more → (a : Agent) → NothingLeft j a → UnmapsItsOwn j more a → NothingLeft (run j more) a
+pub nothing-left : (j : ReclaimState) → Holds j → (more : List Step) → MayRun j more → (a : Agent) → NothingLeft j a → UnmapsItsOwn j more a → NothingLeft (reclaim_run j more) a
 nothing-left j h more may a free unmaps p b listed is =
     elim (option-cases (j.zeroed b)) [
       | inl none ↦ unmapped-gone j h more may p a (unmaps p b listed none is)
@@ -293,7 +293,7 @@ away-of (Paying s paid last) inside paying = absurd (paying (s, paid, last, refl
 
 pub leave_returns : (j : ReclaimState) → Holds j → LeaveReturns j
 leave_returns j h i more may free unmaps out paid =
-    let k = run j more in
+    let k = reclaim_run j more in
     let at = Holds-run j h more may in
     let away = away-of (seat_at k.owed i) (λ is. out (at.inside_in i is)) paid in
     ((λ b. ap (owes k.owed b) away), nothing-left j h more may (Worker i) free unmaps)
@@ -303,7 +303,7 @@ leave_returns j h i more may free unmaps out paid =
 settled-step : (j : ReclaimState) → Holds j → (x : Step) → MayStep j x → (b s : ℕ) → IsOpened j.owed b → passage_of j.owed b s ≡ Settled → passage_of (after j x).owed b s ≡ Settled
 settled-step j h x may b s opened is = owed-after j h (λ w. passage_of w b s ≡ Settled) is (λ y may_owe. settled-after j.owed h.owed y may_owe b s opened is) x may
 
-settled-run : (j : ReclaimState) → Holds j → (more : List Step) → MayRun j more → (b s : ℕ) → IsOpened j.owed b → passage_of j.owed b s ≡ Settled → passage_of (run j more).owed b s ≡ Settled
+settled-run : (j : ReclaimState) → Holds j → (more : List Step) → MayRun j more → (b s : ℕ) → IsOpened j.owed b → passage_of j.owed b s ≡ Settled → passage_of (reclaim_run j more).owed b s ≡ Settled
 settled-run j h [] may b s opened is = is
 settled-run j h (x ∷ more) may b s opened is =
     settled-run (after j x) (Holds-after j h x may.0) more may.1 b s (record { positive = opened.positive; within = opened-step j h x may.0 b opened.within }) (settled-step j h x may.0 b s opened is)
@@ -322,7 +322,7 @@ last-step j h (Push s) may not = let last = last-after j.owed h.owed (owing.Push
 last-step j h (Settle s) may not = let last = last-after j.owed h.owed (owing.Settle s) may in omega arith
 last-step j h (Unmap p a) may not = refl
 
-last-run : (j : ReclaimState) → Holds j → (more : List Step) → MayRun j more → (Contains more Open → ⊥) → last_batch (run j more).owed ≡ last_batch j.owed
+last-run : (j : ReclaimState) → Holds j → (more : List Step) → MayRun j more → (Contains more Open → ⊥) → last_batch (reclaim_run j more).owed ≡ last_batch j.owed
 last-run j h [] may not = refl
 last-run j h (x ∷ more) may not =
     last-run (after j x) (Holds-after j h x may.0) more may.1 (λ found. not (suc found.0, (let l = found.1 in omega arith), found.2))
@@ -331,12 +331,12 @@ last-run j h (x ∷ more) may not =
 slots-step : (j : ReclaimState) → Holds j → (x : Step) → MayStep j x → length (after j x).owed.slots ≡ length j.owed.slots
 slots-step j h x may = owed-after j h (λ w. length w.slots ≡ length j.owed.slots) refl (λ y may_owe. slots-after j.owed y may_owe) x may
 
-slots-run : (j : ReclaimState) → Holds j → (more : List Step) → MayRun j more → length (run j more).owed.slots ≡ length j.owed.slots
+slots-run : (j : ReclaimState) → Holds j → (more : List Step) → MayRun j more → length (reclaim_run j more).owed.slots ≡ length j.owed.slots
 slots-run j h [] may = refl
 slots-run j h (x ∷ more) may = slots-run (after j x) (Holds-after j h x may.0) more may.1 ∙ slots-step j h x may.0
 
 -- a slot that the mover settles in a run without an open is settled at its end
-settles : (j : ReclaimState) → Holds j → (more : List Step) → MayRun j more → (Contains more Open → ⊥) → (s k : ℕ) → k < length more → get_or more k (Settle s) ≡ Settle s → passage_of (run j more).owed (last_batch j.owed) s ≡ Settled
+settles : (j : ReclaimState) → Holds j → (more : List Step) → MayRun j more → (Contains more Open → ⊥) → (s k : ℕ) → k < length more → get_or more k (Settle s) ≡ Settle s → passage_of (reclaim_run j more).owed (last_batch j.owed) s ≡ Settled
 settles j h [] may not s k l e = absurd (omega arith)
 settles j h (x ∷ more) may not s zero l e =
     let here : MayStep j (Settle s) = subst (MayStep j) e may.0 in
@@ -345,12 +345,12 @@ settles j h (x ∷ more) may not s zero l e =
     (ap (λ y. passage_of (after j y).owed (last_batch j.owed) s) e ∙ settle-passage j.owed h.owed s here)
 settles j h (x ∷ more) may not s (suc k) l e =
     let same = last-step j h x may.0 (λ e. not (0, omega arith, e)) in
-    ap (λ b. passage_of (run (after j x) more).owed b s) (sym same)
+    ap (λ b. passage_of (reclaim_run (after j x) more).owed b s) (sym same)
     ∙ settles (after j x) (Holds-after j h x may.0) more may.1 (λ found. not (suc found.0, (let l' = found.1 in omega arith), found.2)) s k (omega arith) e
 
 pub retire_returns : (j : ReclaimState) → Holds j → RetireReturns j
 retire_returns j h more may not each =
-    let k = run j more in
+    let k = reclaim_run j more in
     let at = Holds-run j h more may in
     let slots = slots-run j h more may in
     let settled : SettledEverywhere k.owed (last_batch j.owed) = λ s l. (let found = each s (omega arith) in settles j h more may not s found.0 found.1 found.2) in
@@ -368,9 +368,9 @@ quiet-gone j h quiet p b listed =
 
 pub quiet_is_gone : QuietIsGone
 quiet_is_gone slots workers current steps sized differ may quiet =
-    let j = opening slots workers current in
+    let j = reclaim_opening slots workers current in
     let h = Holds-opening slots workers current sized differ in
-    let k = run j steps in
+    let k = reclaim_run j steps in
     let at = Holds-run j h steps may in
     record {
       none_retired = λ p retired.

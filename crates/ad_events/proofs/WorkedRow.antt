@@ -7,7 +7,7 @@ use Rattle.std.specs.FinSet as set
 use Rattle.std.proofs.lemmas.Bool.{cases_eq}
 use Rattle.ad_events.specs.declared.mapping.Status.TheVariants.{Fresh, Current, Out, Retired}
 use Rattle.ad_events.specs.declared.mapping.Mapping.{Mapping}
-use Rattle.ad_events.specs.World.{mapping_of, ended, map_values, with_status, opening, opening_entries}
+use Rattle.ad_events.specs.World.{mapping_of, ended, map_values, with_status, world_opening, opening_entries}
 use Rattle.ad_events.specs.WorldLaws.{AllLawful, worked_row}
 use Rattle.ad_events.proofs.FiniteMaps.{get-insert_same, get-insert_other, get-remove_same, get-remove_other, contains-insert_same}
 use Rattle.ad_events.proofs.WorldLemmas.{get-map_values, with_status-is}
@@ -47,7 +47,7 @@ nobody worker =
       | inr apart ↦ get-remove_other inside 0 worker apart ∙ get-insert_other map.empty 0 1 worker apart ∙ map.get-empty nat_cmp worker
     ]
 
-pub lawful : AllLawful (opening 1 (1 ∷ [])) worked_row
+pub lawful : AllLawful (world_opening 1 (1 ∷ [])) worked_row
 lawful = (
   (omega arith, set.contains-empty nat_cmp 0, map.get-empty nat_cmp 0),
   (

@@ -6,7 +6,7 @@ use Rattle.ad_events.specs.declared.mapping.Status.TheVariants.{Retired, Gone}
 use Rattle.ad_events.specs.Mapping.{rank_of}
 use Rattle.ad_events.specs.World.{EventWorld, status_of}
 use Rattle.ad_events.specs.Owed.{seat_at, owes}
-use Rattle.ad_events.specs.Reclaim.{Agent, ReclaimState, Step, MayRun, opening, run}
+use Rattle.ad_events.specs.Reclaim.{Agent, ReclaimState, Step, MayRun, reclaim_opening, reclaim_run}
 use Rattle.ad_events.specs.ReclaimLaws.{NotGoneInside, WhoZeroedMayUnmap, GoneIsZeroed, ZeroIsNoted, events_of}
 use Rattle.ad_events.proofs.Pictures.{Picture, Shows, opening_picture, picture_run, shows-opening, shows-run, may_run, MayRun-tested}
 use Rattle.ad_events.proofs.Functions.{some≢none}
@@ -19,11 +19,11 @@ status-shown w v s p = ap (option_map (λ x. x.status)) (s.mapping p)
 -- ---- runs from an opening
 
 module _ (slots workers : ℕ) (current : List ℕ) (xs : List Step) where
-  pub shown : Shows (run (opening slots workers current) xs).world (picture_run (opening_picture current) (events_of xs))
-  shown = shows-run (opening slots workers current) (opening_picture current) (shows-opening workers current) xs
+  pub shown : Shows (reclaim_run (reclaim_opening slots workers current) xs).world (picture_run (opening_picture current) (events_of xs))
+  shown = shows-run (reclaim_opening slots workers current) (opening_picture current) (shows-opening workers current) xs
 
-  pub possible : may_run (opening slots workers current) (opening_picture current) xs ≡ true → MayRun (opening slots workers current) xs
-  possible e = MayRun-tested (opening slots workers current) (opening_picture current) (shows-opening workers current) xs e
+  pub possible : may_run (reclaim_opening slots workers current) (opening_picture current) xs ≡ true → MayRun (reclaim_opening slots workers current) xs
+  possible e = MayRun-tested (reclaim_opening slots workers current) (opening_picture current) (shows-opening workers current) xs e
 
 -- ---- what breaks a law
 

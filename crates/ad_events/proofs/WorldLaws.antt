@@ -11,8 +11,8 @@ use Rattle.ad_events.specs.declared.event.Event.{Event}
 use Rattle.ad_events.specs.declared.event.Event.TheVariants.{Enter, Read, Leave, Map, Switch, Retire, Unmap}
 use Rattle.ad_events.specs.Sums.{bit}
 use Rattle.ad_events.specs.Mapping.{rank_of}
-use Rattle.ad_events.specs.World.{EventWorld, mapping_of, status_of, IsLawful, is_current, ended, map_values, with_status, effect, opening, opening_entries, AllDiffer, MayHold, MayBeInside, IsWorld, current_after}
-use Rattle.ad_events.specs.WorldLaws.{run, AllLawful, OneCurrent, GoesOn, EachGoesOn, NeverBack, NoneGoneInside, unmaps, GoneOnce, NotGoneNever}
+use Rattle.ad_events.specs.World.{EventWorld, mapping_of, status_of, IsLawful, is_current, ended, map_values, with_status, effect, world_opening, opening_entries, AllDiffer, MayHold, MayBeInside, IsWorld, current_after}
+use Rattle.ad_events.specs.WorldLaws.{world_run, AllLawful, OneCurrent, GoesOn, EachGoesOn, NeverBack, NoneGoneInside, unmaps, GoneOnce, NotGoneNever}
 use Rattle.ad_events.proofs.RunLemmas.{run-keeps}
 use Rattle.ad_events.proofs.SumLemmas.{count_by-cons}
 use Rattle.ad_events.proofs.FiniteMaps.{get-insert_same, get-insert_other}
@@ -37,15 +37,15 @@ IsWorld-event w is e lawful =
       fits = WorldFits-event is.current w is.same is.fits e lawful;
     }
 
-pub IsWorld-run : (w : EventWorld) → IsWorld w → (events : List Event) → AllLawful w events → IsWorld (run w events)
+pub IsWorld-run : (w : EventWorld) → IsWorld w → (events : List Event) → AllLawful w events → IsWorld (world_run w events)
 IsWorld-run w is events lawful = run-keeps IsLawful effect IsWorld IsWorld-event w is events lawful
 
-pub IsWorld-opening : (workers : ℕ) (current : List ℕ) → AllDiffer current → IsWorld (opening workers current)
+pub IsWorld-opening : (workers : ℕ) (current : List ℕ) → AllDiffer current → IsWorld (world_opening workers current)
 IsWorld-opening workers current differ = record { current = current; same = refl; fits = WorldFits-opening current differ }
 
 -- what holds of every world holds after all lawful events
-pub after_all_events : (Law : EventWorld → Type 0) → ((w : EventWorld) → IsWorld w → Law w) → (workers : ℕ) (current : List ℕ) (events : List Event) → AllDiffer current → AllLawful (opening workers current) events → Law (run (opening workers current) events)
-after_all_events Law law workers current events differ lawful = law _ (IsWorld-run (opening workers current) (IsWorld-opening workers current differ) events lawful)
+pub after_all_events : (Law : EventWorld → Type 0) → ((w : EventWorld) → IsWorld w → Law w) → (workers : ℕ) (current : List ℕ) (events : List Event) → AllDiffer current → AllLawful (world_opening workers current) events → Law (world_run (world_opening workers current) events)
+after_all_events Law law workers current events differ lawful = law _ (IsWorld-run (world_opening workers current) (IsWorld-opening workers current differ) events lawful)
 
 pub one_current : (w : EventWorld) → IsWorld w → OneCurrent w
 one_current w is m l = (get_or is.current m 0, is.fits.listed m (let same = is.same in omega arith), λ q found. sym (is.fits.only q m found).1)
@@ -117,7 +117,7 @@ next-status (Some x) (Some y) s goes e =
     let was = ap rank_of (ap (λ o. unwrap_or o Fresh) e) in
     (y.status, refl, elim goes.1 [ inl same ↦ (let now = ap rank_of same in omega arith) | inr next ↦ omega arith ])
 
-never-back : (w : EventWorld) → IsWorld w → (more : List Event) → AllLawful w more → (p : ℕ) (s : Status) → status_of w p ≡ Some s → (t : Status) × (status_of (run w more) p ≡ Some t) × (rank_of s ≤ rank_of t)
+never-back : (w : EventWorld) → IsWorld w → (more : List Event) → AllLawful w more → (p : ℕ) (s : Status) → status_of w p ≡ Some s → (t : Status) × (status_of (world_run w more) p ≡ Some t) × (rank_of s ≤ rank_of t)
 never-back w is [] lawful p s e = (s, e, omega arith)
 never-back w is (x ∷ more) lawful p s e =
     let step = next-status (map.get w.mappings p) (map.get (effect w x).mappings p) s (each_goes_on w is x lawful.0 p) e in
@@ -185,7 +185,7 @@ gone-step w (Unmap p) lawful q =
           let now = ap gone (get-insert_other w.mappings p (mapping_of was.0 Gone) q apart) in omega arith
     ]
 
-gone-run : (w : EventWorld) (events : List Event) → AllLawful w events → (q : ℕ) → count_by (unmaps q) events + gone (map.get w.mappings q) ≡ gone (map.get (run w events).mappings q)
+gone-run : (w : EventWorld) (events : List Event) → AllLawful w events → (q : ℕ) → count_by (unmaps q) events + gone (map.get w.mappings q) ≡ gone (map.get (world_run w events).mappings q)
 gone-run w [] lawful q = omega arith
 gone-run w (e ∷ es) lawful q =
     let one = gone-step w e lawful.0 q in
@@ -216,16 +216,16 @@ status-not_gone : (o : Option Mapping) → option_map (λ x. x.status) o ≢ Som
 status-not_gone None apart = refl
 status-not_gone (Some x) apart = ap bit (not_gone x.status (λ e. apart (ap (λ s. Some s) e)))
 
-gone-opening : (workers : ℕ) (current : List ℕ) (q : ℕ) → gone (map.get (opening workers current).mappings q) ≡ 0
+gone-opening : (workers : ℕ) (current : List ℕ) (q : ℕ) → gone (map.get (world_opening workers current).mappings q) ≡ 0
 gone-opening workers current q = opening-gone 0 current q
 
 pub gone_once : GoneOnce
 gone_once workers current events differ lawful p e =
-    let all = gone-run (opening workers current) events lawful p in
+    let all = gone-run (world_opening workers current) events lawful p in
     let none = gone-opening workers current p in
-    let one = gone-status (map.get (run (opening workers current) events).mappings p) e in omega arith
+    let one = gone-status (map.get (world_run (world_opening workers current) events).mappings p) e in omega arith
 
 pub not_gone_never : NotGoneNever
 not_gone_never workers current events differ lawful p apart =
-    let all = gone-run (opening workers current) events lawful p in
-    let none = status-not_gone (map.get (run (opening workers current) events).mappings p) apart in omega arith
+    let all = gone-run (world_opening workers current) events lawful p in
+    let none = status-not_gone (map.get (world_run (world_opening workers current) events).mappings p) apart in omega arith

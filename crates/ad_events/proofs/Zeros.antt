@@ -3,7 +3,7 @@ use Rattle.std.proofs.Common.{◌≡◌, ◌≢◌, ℕ, ◌+◌, ◌*◌, ◌<�
 use Rattle.std.proofs.lemmas.Bool.{cases_eq, cases_lt}
 use Rattle.std.proofs.lemmas.Bool.Decides.{nat_tests}
 use Rattle.ad_events.specs.Sums.{bit}
-use Rattle.ad_events.specs.Owed.{State, Paying, Step, Open, Push, Settle, Enter, Leave, Pay, seat_at, count_of, last_batch, slot_share, MayStep, takes_from, due_of, answer, after, paid_by, left, opening, run, MayRun}
+use Rattle.ad_events.specs.Owed.{State, Paying, Step, Open, Push, Settle, Enter, Leave, Pay, seat_at, count_of, last_batch, slot_share, MayStep, takes_from, due_of, answer, after, paid_by, left, owed_opening, owed_run, MayRun}
 use Rattle.ad_events.specs.OwedInvariant.{IsSized, Holds}
 use Rattle.ad_events.specs.OwedLaws.{answers_zero, zeros, OneZero, NoZero, TakesToZero, ZeroStays}
 use Rattle.ad_events.proofs.OpenStep.{open-last, open-count, open-count_new}
@@ -99,16 +99,16 @@ zero_step w h b positive (Pay i) may =
     (pay-zero w h i b may.0 may.1 may.2 positive may.3)
 
 -- the zeros answered in a run are those that are there at its end and weren't at its start
-zeros-run : (w : State) → Holds w → (b : ℕ) → 0 < b → (xs : List Step) → MayRun w xs → zeros w b xs + zero_in w b ≡ zero_in (run w xs) b
+zeros-run : (w : State) → Holds w → (b : ℕ) → 0 < b → (xs : List Step) → MayRun w xs → zeros w b xs + zero_in w b ≡ zero_in (owed_run w xs) b
 zeros-run w h b positive [] may = omega arith
 zeros-run w h b positive (x ∷ xs) may =
     let one = zero_step w h b positive x may.0 in
     let rest = zeros-run (after w x) (Holds-step w h x may.0) b positive xs may.1 in omega arith
 
-opening-holds : (slots seats : ℕ) → IsSized slots seats → Holds (opening slots seats)
+opening-holds : (slots seats : ℕ) → IsSized slots seats → Holds (owed_opening slots seats)
 opening-holds slots seats sized = Holds-opening slots seats sized
 
-at_opening : (slots seats b : ℕ) → 0 < b → zero_in (opening slots seats) b ≡ 0
+at_opening : (slots seats b : ℕ) → 0 < b → zero_in (owed_opening slots seats) b ≡ 0
 at_opening slots seats b positive = grind (arith, nat_tests)
 
 zero_there : (last b count : ℕ) → b ≤ last → count ≡ 0 → zero_now last b count ≡ 1
@@ -130,22 +130,22 @@ zero_read last b count one =
 
 pub one_zero : OneZero
 one_zero slots seats steps sized may b opened zero =
-    let all = zeros-run (opening slots seats) (opening-holds slots seats sized) b opened.positive steps may in
+    let all = zeros-run (owed_opening slots seats) (opening-holds slots seats sized) b opened.positive steps may in
     let none = at_opening slots seats b opened.positive in
-    let w = run (opening slots seats) steps in
+    let w = owed_run (owed_opening slots seats) steps in
     let one = zero_there (last_batch w) b (count_of w b) opened.within zero in omega arith
 
 pub no_zero : NoZero
 no_zero slots seats steps sized may b opened apart =
-    let all = zeros-run (opening slots seats) (opening-holds slots seats sized) b opened.positive steps may in
-    let w = run (opening slots seats) steps in
+    let all = zeros-run (owed_opening slots seats) (opening-holds slots seats sized) b opened.positive steps may in
+    let w = owed_run (owed_opening slots seats) steps in
     let none = zero_absent (last_batch w) b (count_of w b) apart in omega arith
 
 pub zero_stays : (w : State) → Holds w → ZeroStays w
 zero_stays w h more may b opened zero =
     let all = zeros-run w h b opened.positive more may in
     let one = zero_there (last_batch w) b (count_of w b) opened.within zero in
-    let v = run w more in
+    let v = owed_run w more in
     let read = zero_read (last_batch v) b (count_of v b) (omega arith) in
     (record { positive = opened.positive; within = read.0 }, read.1)
 

@@ -258,12 +258,12 @@ answer w (Pay i) = count_of (after w (Pay i)) (takes_from w (Pay i))
 -- ---- runs
 
 -- no batch, nobody inside, each seat away
-abbrev pub opening : ℕ → ℕ → State
-opening slots seats = record { slots = replicate slots (record { inside = 0; pushed = 0 }); batches = []; seats = replicate seats Away }
+abbrev pub owed_opening : ℕ → ℕ → State
+owed_opening slots seats = record { slots = replicate slots (record { inside = 0; pushed = 0 }); batches = []; seats = replicate seats Away }
 
 -- the state after a list of steps
-abbrev pub run : State → List Step → State
-run w steps = fold after w steps
+abbrev pub owed_run : State → List Step → State
+owed_run w steps = fold after w steps
 
 -- each step of the list may be made where it stands
 abbrev pub MayRun : State → List Step → Type 0

@@ -1,6 +1,6 @@
 -- Computed examples of what a seat owes: a schedule through all six steps, and two wrong movers that the laws rule out.
 use Rattle.std.specs.Prelude.{ℕ, ◌-◌, List, [], ◌∷◌}
-use Rattle.ad_events.specs.Owed.{State, Settled, Paying, Step, Open, Push, Settle, Enter, Leave, Pay, inside_of, pushed_on, count_of, slot_share, put_slot, put_passage, put_seat, after, run, opening}
+use Rattle.ad_events.specs.Owed.{State, Settled, Paying, Step, Open, Push, Settle, Enter, Leave, Pay, inside_of, pushed_on, count_of, slot_share, put_slot, put_passage, put_seat, after, owed_run, owed_opening}
 
 -- Two seats and two slots. Seat 0 is inside slot 0 when batch 1 is opened and pushed there; seat 1 enters slot 1 before
 -- the batch comes there; seat 0 leaves, pays, and enters again under entry number 1, so that it owes nothing the second time
@@ -23,7 +23,7 @@ push_late w b s = put_slot w s (record { inside = inside_of w s; pushed = b })
 
 -- One slot, one seat: batch 1 is opened
 abbrev pub one_opened : State
-one_opened = after (opening 1 1) Open
+one_opened = after (owed_opening 1 1) Open
 
 -- the mover loads the slot, finds nobody inside, and settles it
 abbrev pub settled_early : State
@@ -42,7 +42,7 @@ abbrev pub one_owes_steps : List Step
 one_owes_steps = Open ∷ Enter 0 0 ∷ Push 0 ∷ Settle 0 ∷ Enter 1 0 ∷ []
 
 abbrev pub one_owes : State
-one_owes = run (opening 1 2) one_owes_steps
+one_owes = owed_run (owed_opening 1 2) one_owes_steps
 
 -- seat i, inside slot s with this entry number, leaves as one that has yet to pay also the batch of its entry number
 abbrev pub leave_owing_entry : State → ℕ → ℕ → ℕ → State

@@ -1,16 +1,16 @@
 -- The laws of what a seat owes, in the numbered form: what holds of every state that some list of steps reaches.
 use Rattle.std.specs.Prelude.{◌≡◌, ◌≢◌, ◌↔◌, ℕ, ◌+◌, ◌-◌, ◌*◌, ◌^◌, ◌<◌, ◌≤◌, Bool, true, false, ◌&&◌, ◌==◌, List, [], ◌∷◌, length, count_by}
 use Rattle.ad_events.specs.Sums.{bit}
-use Rattle.ad_events.specs.Owed.{State, Away, Inside, Step, Open, Push, Settle, Enter, Leave, Pay, seat_at, inside_of, pushed_on, count_of, passage_of, last_batch, IsOpened, SettledEverywhere, IsIdle, owes, WaitsFor, owed_of, slot_share, found_by, due_of, slot_of, is_inside, is_passed, MayStep, takes_from, answer, after, opening, run, MayRun}
+use Rattle.ad_events.specs.Owed.{State, Away, Inside, Step, Open, Push, Settle, Enter, Leave, Pay, seat_at, inside_of, pushed_on, count_of, passage_of, last_batch, IsOpened, SettledEverywhere, IsIdle, owes, WaitsFor, owed_of, slot_share, found_by, due_of, slot_of, is_inside, is_passed, MayStep, takes_from, answer, after, owed_opening, owed_run, MayRun}
 use Rattle.ad_events.specs.OwedInvariant.{IsSized, Holds}
 
 -- the law holds of the state after every list of steps from the opening, of which each may be made where it stands
 abbrev pub AfterEveryRun : (State → Type 0) → Type 0
-AfterEveryRun Law = (slots seats : ℕ) (steps : List Step) → IsSized slots seats → MayRun (opening slots seats) steps → Law (run (opening slots seats) steps)
+AfterEveryRun Law = (slots seats : ℕ) (steps : List Step) → IsSized slots seats → MayRun (owed_opening slots seats) steps → Law (owed_run (owed_opening slots seats) steps)
 
 -- the invariant holds at each opening, and each step that may be made keeps it
 abbrev pub HoldsAtOpening : Type 0
-HoldsAtOpening = (slots seats : ℕ) → IsSized slots seats → Holds (opening slots seats)
+HoldsAtOpening = (slots seats : ℕ) → IsSized slots seats → Holds (owed_opening slots seats)
 
 abbrev pub StepsKeep : Type 0
 StepsKeep = (w : State) → Holds w → (x : Step) → MayStep w x → Holds (after w x)
@@ -64,13 +64,13 @@ zeros w b (x ∷ xs) = bit (answers_zero w b x) + zeros (after w x) b xs
 
 -- of the steps of a run exactly one, a settle or a pay, answers zero for an opened batch whose count is zero
 abbrev pub OneZero : Type 0
-OneZero = (slots seats : ℕ) (steps : List Step) → IsSized slots seats → MayRun (opening slots seats) steps → (b : ℕ)
-    → IsOpened (run (opening slots seats) steps) b → count_of (run (opening slots seats) steps) b ≡ 0 → zeros (opening slots seats) b steps ≡ 1
+OneZero = (slots seats : ℕ) (steps : List Step) → IsSized slots seats → MayRun (owed_opening slots seats) steps → (b : ℕ)
+    → IsOpened (owed_run (owed_opening slots seats) steps) b → count_of (owed_run (owed_opening slots seats) steps) b ≡ 0 → zeros (owed_opening slots seats) b steps ≡ 1
 
 -- and none answers zero for one whose count isn't zero
 abbrev pub NoZero : Type 0
-NoZero = (slots seats : ℕ) (steps : List Step) → IsSized slots seats → MayRun (opening slots seats) steps → (b : ℕ)
-    → IsOpened (run (opening slots seats) steps) b → count_of (run (opening slots seats) steps) b ≢ 0 → zeros (opening slots seats) b steps ≡ 0
+NoZero = (slots seats : ℕ) (steps : List Step) → IsSized slots seats → MayRun (owed_opening slots seats) steps → (b : ℕ)
+    → IsOpened (owed_run (owed_opening slots seats) steps) b → count_of (owed_run (owed_opening slots seats) steps) b ≢ 0 → zeros (owed_opening slots seats) b steps ≡ 0
 
 -- the step is a settle or a pay
 abbrev pub Takes : Step → Type 0
@@ -88,7 +88,7 @@ TakesToZero w = (x : Step) → MayStep w x → (b : ℕ) → IsOpened w b → co
 
 -- a count that is zero stays zero
 abbrev pub ZeroStays : State → Type 0
-ZeroStays w = (more : List Step) → MayRun w more → (b : ℕ) → IsOpened w b → count_of w b ≡ 0 → IsOpened (run w more) b × (count_of (run w more) b ≡ 0)
+ZeroStays w = (more : List Step) → MayRun w more → (b : ℕ) → IsOpened w b → count_of w b ≡ 0 → IsOpened (owed_run w more) b × (count_of (owed_run w more) b ≡ 0)
 
 -- a slot tells what the seats and the batches tell: its number inside is that of the seats inside it, and a batch has
 -- passed it exactly where it is none above the last one pushed

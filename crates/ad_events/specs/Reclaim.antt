@@ -6,7 +6,7 @@ use Rattle.ad_events.specs.declared.mapping.Status.TheVariants.{Gone}
 use Rattle.ad_events.specs.declared.event.Event.{Event}
 use Rattle.ad_events.specs.declared.event.Event.TheVariants as event
 use Rattle.ad_events.specs.Functions.{changed}
-use Rattle.ad_events.specs.World.{EventWorld, status_of, IsLawful, effect, opening as opening_world}
+use Rattle.ad_events.specs.World.{EventWorld, status_of, IsLawful, effect, world_opening}
 use Rattle.ad_events.specs.Owed as owing
 use Rattle.ad_events.specs.Owed.{last_batch, seat_at, due_of, answer}
 
@@ -117,12 +117,12 @@ after j x = record { world = world_after j.world (event_of x); owed = owed_after
 -- ---- runs
 
 -- so many slots; so many workers, each with its seat; and a module for each number given, whose current mapping has it
-abbrev pub opening : ℕ → ℕ → List ℕ → ReclaimState
-opening slots workers current = record { world = opening_world workers current; owed = owing.opening slots workers; batch = λ _. None; zeroed = λ _. None }
+abbrev pub reclaim_opening : ℕ → ℕ → List ℕ → ReclaimState
+reclaim_opening slots workers current = record { world = world_opening workers current; owed = owing.owed_opening slots workers; batch = λ _. None; zeroed = λ _. None }
 
 -- the state after a list of steps
-abbrev pub run : ReclaimState → List Step → ReclaimState
-run j steps = fold after j steps
+abbrev pub reclaim_run : ReclaimState → List Step → ReclaimState
+reclaim_run j steps = fold after j steps
 
 -- each step of the list may be made where it stands
 abbrev pub MayRun : ReclaimState → List Step → Type 0

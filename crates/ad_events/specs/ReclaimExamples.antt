@@ -8,14 +8,14 @@ use Rattle.ad_events.specs.World.{effect}
 use Rattle.ad_events.specs.Owed as owing
 use Rattle.ad_events.specs.Owed.{inside_of}
 use Rattle.ad_events.specs.OwedExamples.{settle_early, push_late, leave_owing_entry}
-use Rattle.ad_events.specs.Reclaim.{Agent, Worker, Mover, ReclaimState, Step, Enter, Read, Leave, Pay, Map, Switch, Retire, Open, Push, Settle, Unmap, after, opening, run}
+use Rattle.ad_events.specs.Reclaim.{Agent, Worker, Mover, ReclaimState, Step, Enter, Read, Leave, Pay, Map, Switch, Retire, Open, Push, Settle, Unmap, after, reclaim_opening, reclaim_run}
 
 -- ---- a schedule
 
 -- Two slots; workers 0 and 1 on slot 0, worker 2 on slot 1; module 0 has mapping 1, module 1 has mapping 2. Worker 1 enters
 -- between the list and the open of batch 1, and leaves between those of batch 2
 abbrev pub opening_of_three : ReclaimState
-opening_of_three = opening 2 3 (1 ∷ 2 ∷ [])
+opening_of_three = reclaim_opening 2 3 (1 ∷ 2 ∷ [])
 
 -- mapping 3 takes the place of 1, which is listed in batch 1; all three workers are inside when the batch is pushed
 abbrev pub first_batch : List Step
@@ -58,7 +58,7 @@ schedule_answers =
 
 -- One slot and one worker; module 0 has mapping 1. The worker is inside mapping 1 when mapping 2 takes its place
 abbrev pub opening_of_one : ReclaimState
-opening_of_one = opening 1 1 (1 ∷ [])
+opening_of_one = reclaim_opening 1 1 (1 ∷ [])
 
 abbrev pub retired_inside : List Step
 retired_inside = Enter 0 0 ∷ Read 0 0 1 ∷ Map 0 2 ∷ Switch 0 2 ∷ Retire 1 ∷ Open ∷ Push 0 ∷ Settle 0 ∷ []
@@ -82,27 +82,27 @@ with_zeroed j b a = record { world = j.world; owed = j.owed; batch = j.batch; ze
 
 -- a switch that unmaps the old mapping straight away
 abbrev pub unmapped_at_switch : ReclaimState
-unmapped_at_switch = run opening_of_one (Enter 0 0 ∷ Read 0 0 1 ∷ Map 0 2 ∷ Switch 0 2 ∷ Unmap 1 Mover ∷ [])
+unmapped_at_switch = reclaim_run opening_of_one (Enter 0 0 ∷ Read 0 0 1 ∷ Map 0 2 ∷ Switch 0 2 ∷ Unmap 1 Mover ∷ [])
 
 -- a mover that settles before it pushes, by a number that it loaded before the worker entered
 abbrev pub settled_before_push : ReclaimState
 settled_before_push =
-    let opened = run opening_of_one (Enter 0 0 ∷ Read 0 0 1 ∷ Map 0 2 ∷ Switch 0 2 ∷ Retire 1 ∷ Open ∷ []) in
+    let opened = reclaim_run opening_of_one (Enter 0 0 ∷ Read 0 0 1 ∷ Map 0 2 ∷ Switch 0 2 ∷ Retire 1 ∷ Open ∷ []) in
     with_zeroed (with_owed opened (push_late (settle_early opened.owed 1 0 (inside_of opening_of_one.owed 0)) 1 0)) 1 Mover
 
 -- a leave that pays also the batch of its entry number: worker 1 enters after the push, and pays for worker 0
 abbrev pub opening_of_two : ReclaimState
-opening_of_two = opening 1 2 (1 ∷ [])
+opening_of_two = reclaim_opening 1 2 (1 ∷ [])
 
 abbrev pub owed_by_one : ReclaimState
-owed_by_one = run opening_of_two (retired_inside ++ Enter 1 0 ∷ Read 1 0 2 ∷ [])
+owed_by_one = reclaim_run opening_of_two (retired_inside ++ Enter 1 0 ∷ Read 1 0 2 ∷ [])
 
 abbrev pub paid_too_much : ReclaimState
 paid_too_much = after (with_owed (with_event owed_by_one (event.Leave 1)) (leave_owing_entry owed_by_one.owed 1 0 1)) (Pay 1)
 
 -- a leave that unmaps without having paid, while worker 1 is inside the mapping too
 abbrev pub freed_unpaid : ReclaimState
-freed_unpaid = run opening_of_two (Enter 1 0 ∷ Read 1 0 1 ∷ retired_inside ++ Leave 0 ∷ Unmap 1 (Worker 0) ∷ [])
+freed_unpaid = reclaim_run opening_of_two (Enter 1 0 ∷ Read 1 0 1 ∷ retired_inside ++ Leave 0 ∷ Unmap 1 (Worker 0) ∷ [])
 
 -- a leave that puts the batch that it brought to zero on a list for later, and returns
 abbrev pub put_off : List Step
@@ -115,7 +115,7 @@ freed_twice = retired_inside ++ then_left ++ Unmap 1 Mover ∷ []
 -- an unmap of a mapping of another batch: worker 0 is inside mapping 2 of batch 2, and the mover has brought batch 1 to zero
 abbrev pub freed_another : ReclaimState
 freed_another =
-    run opening_of_one
+    reclaim_run opening_of_one
     (Map 0 2 ∷ Switch 0 2 ∷ Retire 1 ∷ Open ∷ Push 0 ∷ Settle 0 ∷ Enter 0 0 ∷ Read 0 0 2 ∷ Map 0 3 ∷ Switch 0 3 ∷ Retire 2 ∷ Open ∷ Push 0 ∷ Settle 0 ∷ Unmap 2 Mover ∷ [])
 
 -- a worker that reads before its slot's number is raised, so that the mover finds nobody inside
@@ -123,14 +123,14 @@ abbrev pub read_uncounted : ReclaimState
 read_uncounted = with_event (with_event opening_of_one (event.Enter 0)) (event.Read 0 0 1)
 
 abbrev pub unmapped_uncounted : ReclaimState
-unmapped_uncounted = run read_uncounted (Map 0 2 ∷ Switch 0 2 ∷ Retire 1 ∷ Open ∷ Push 0 ∷ Settle 0 ∷ Unmap 1 Mover ∷ [])
+unmapped_uncounted = reclaim_run read_uncounted (Map 0 2 ∷ Switch 0 2 ∷ Retire 1 ∷ Open ∷ Push 0 ∷ Settle 0 ∷ Unmap 1 Mover ∷ [])
 
 -- a worker that pays before it leaves
 abbrev pub paid_inside : ReclaimState
 paid_inside =
-    let inside = run opening_of_one retired_inside in
+    let inside = reclaim_run opening_of_one retired_inside in
     with_zeroed (with_owed inside (owing.put_count inside.owed 1 0)) 1 (Worker 0)
 
 -- a mover that settles one slot fewer, of two, and returns
 abbrev pub settled_short : ReclaimState
-settled_short = run (opening 2 1 (1 ∷ [])) (Map 0 2 ∷ Switch 0 2 ∷ Retire 1 ∷ Open ∷ Push 0 ∷ Settle 0 ∷ Push 1 ∷ [])
+settled_short = reclaim_run (reclaim_opening 2 1 (1 ∷ [])) (Map 0 2 ∷ Switch 0 2 ∷ Retire 1 ∷ Open ∷ Push 0 ∷ Settle 0 ∷ Push 1 ∷ [])

@@ -4,25 +4,25 @@ use Rattle.std.specs.FinMap as map
 use Rattle.ad_events.specs.declared.mapping.Status.TheVariants.{Retired, Gone}
 use Rattle.ad_events.specs.declared.event.Event.{Event}
 use Rattle.ad_events.specs.declared.event.Event.TheVariants as event
-use Rattle.ad_events.specs.World.{EventWorld, status_of, IsLawful, AllDiffer, MayBeInside, opening as opening_world}
+use Rattle.ad_events.specs.World.{EventWorld, status_of, IsLawful, AllDiffer, MayBeInside, world_opening}
 use Rattle.ad_events.specs.WorldLaws as worlds
 use Rattle.ad_events.specs.Owed as owing
 use Rattle.ad_events.specs.Owed.{Inside, seat_at, count_of, last_batch, IsOpened, SettledEverywhere, IsIdle, IsInside, owes, WaitsFor, takes_from, answer}
 use Rattle.ad_events.specs.OwedInvariant.{IsSized}
 use Rattle.ad_events.specs.OwedLaws.{NobodyOwes, AllAway, Takes, zeros}
-use Rattle.ad_events.specs.Reclaim.{Agent, Worker, Mover, ReclaimState, Step, Enter, Read, Leave, Pay, Retire, Open, Settle, Unmap, event_of, owing_of, MayStep, after, opening, run, MayRun}
+use Rattle.ad_events.specs.Reclaim.{Agent, Worker, Mover, ReclaimState, Step, Enter, Read, Leave, Pay, Retire, Open, Settle, Unmap, event_of, owing_of, MayStep, after, reclaim_opening, reclaim_run, MayRun}
 use Rattle.ad_events.specs.ReclaimInvariant.{IsIn, IsListed, IsZeroed, Holds}
 
 -- the law holds of the state after every list of steps from an opening, of which each may be made where it stands
 abbrev pub AfterEveryRun : (ReclaimState → Type 0) → Type 0
-AfterEveryRun Law = (slots workers : ℕ) (current : List ℕ) (steps : List Step) → IsSized slots workers → AllDiffer current → MayRun (opening slots workers current) steps
-    → Law (run (opening slots workers current) steps)
+AfterEveryRun Law = (slots workers : ℕ) (current : List ℕ) (steps : List Step) → IsSized slots workers → AllDiffer current → MayRun (reclaim_opening slots workers current) steps
+    → Law (reclaim_run (reclaim_opening slots workers current) steps)
 
 -- ---- the invariant
 
 -- the invariant holds at each opening, and each step that may be made keeps it
 abbrev pub HoldsAtOpening : Type 0
-HoldsAtOpening = (slots workers : ℕ) (current : List ℕ) → IsSized slots workers → AllDiffer current → Holds (opening slots workers current)
+HoldsAtOpening = (slots workers : ℕ) (current : List ℕ) → IsSized slots workers → AllDiffer current → Holds (reclaim_opening slots workers current)
 
 abbrev pub StepsKeep : Type 0
 StepsKeep = (j : ReclaimState) → Holds j → (x : Step) → MayStep j x → Holds (after j x)
@@ -52,13 +52,13 @@ LawfulInBoth j = (x : Step) → MayStep j x → LawfulIfSome j.world (event_of x
 -- so a run is one of each machine: its events are lawful in turn, its steps of what is owed may be made in turn, and they
 -- make its world and what is owed in it
 pub record RunsBoth (slots workers : ℕ) (current : List ℕ) (steps : List Step) : Type 0 where
-  pub lawful : worlds.AllLawful (opening_world workers current) (events_of steps)
-  pub world : (run (opening slots workers current) steps).world ≡ worlds.run (opening_world workers current) (events_of steps)
-  pub may : owing.MayRun (owing.opening slots workers) (owing_steps_of steps)
-  pub owed : (run (opening slots workers current) steps).owed ≡ owing.run (owing.opening slots workers) (owing_steps_of steps)
+  pub lawful : worlds.AllLawful (world_opening workers current) (events_of steps)
+  pub world : (reclaim_run (reclaim_opening slots workers current) steps).world ≡ worlds.world_run (world_opening workers current) (events_of steps)
+  pub may : owing.MayRun (owing.owed_opening slots workers) (owing_steps_of steps)
+  pub owed : (reclaim_run (reclaim_opening slots workers current) steps).owed ≡ owing.owed_run (owing.owed_opening slots workers) (owing_steps_of steps)
 
 abbrev pub EachRunsBoth : Type 0
-EachRunsBoth = (slots workers : ℕ) (current : List ℕ) (steps : List Step) → IsSized slots workers → AllDiffer current → MayRun (opening slots workers current) steps → RunsBoth slots workers current steps
+EachRunsBoth = (slots workers : ℕ) (current : List ℕ) (steps : List Step) → IsSized slots workers → AllDiffer current → MayRun (reclaim_opening slots workers current) steps → RunsBoth slots workers current steps
 
 -- ---- who is in
 
@@ -84,7 +84,7 @@ pub record AboveUntilOpen (j : ReclaimState) : Type 0 where
 
 -- a mapping keeps its batch
 abbrev pub BatchStays : ReclaimState → Type 0
-BatchStays j = (more : List Step) → MayRun j more → (p b : ℕ) → j.batch p ≡ Some b → (run j more).batch p ≡ Some b
+BatchStays j = (more : List Step) → MayRun j more → (p b : ℕ) → j.batch p ≡ Some b → (reclaim_run j more).batch p ≡ Some b
 
 -- ---- a worker pins its mapping
 
@@ -128,15 +128,15 @@ NotedByMaker j = (x : Step) → MayStep j x → (b : ℕ) (a : Agent) → j.zero
 
 -- and stays noted
 abbrev pub NotedStays : ReclaimState → Type 0
-NotedStays j = (more : List Step) → MayRun j more → (b : ℕ) (a : Agent) → j.zeroed b ≡ Some a → (run j more).zeroed b ≡ Some a
+NotedStays j = (more : List Step) → MayRun j more → (b : ℕ) (a : Agent) → j.zeroed b ≡ Some a → (reclaim_run j more).zeroed b ≡ Some a
 
 -- of the steps of a run exactly one brings a batch to zero that was brought there, and none another one
 pub record BroughtOnce (slots workers : ℕ) (current : List ℕ) (steps : List Step) : Type 0 where
-  pub one : (b : ℕ) → IsZeroed (run (opening slots workers current) steps) b → zeros (owing.opening slots workers) b (owing_steps_of steps) ≡ 1
-  pub none : (b : ℕ) → IsOpened (run (opening slots workers current) steps).owed b → (IsZeroed (run (opening slots workers current) steps) b → ⊥) → zeros (owing.opening slots workers) b (owing_steps_of steps) ≡ 0
+  pub one : (b : ℕ) → IsZeroed (reclaim_run (reclaim_opening slots workers current) steps) b → zeros (owing.owed_opening slots workers) b (owing_steps_of steps) ≡ 1
+  pub none : (b : ℕ) → IsOpened (reclaim_run (reclaim_opening slots workers current) steps).owed b → (IsZeroed (reclaim_run (reclaim_opening slots workers current) steps) b → ⊥) → zeros (owing.owed_opening slots workers) b (owing_steps_of steps) ≡ 0
 
 abbrev pub EachBroughtOnce : Type 0
-EachBroughtOnce = (slots workers : ℕ) (current : List ℕ) (steps : List Step) → IsSized slots workers → AllDiffer current → MayRun (opening slots workers current) steps → BroughtOnce slots workers current steps
+EachBroughtOnce = (slots workers : ℕ) (current : List ℕ) (steps : List Step) → IsSized slots workers → AllDiffer current → MayRun (reclaim_opening slots workers current) steps → BroughtOnce slots workers current steps
 
 -- who brought the batch of a mapping to zero may unmap it as long as it isn't gone, and that is lawful in the world
 abbrev pub WhoZeroedMayUnmap : ReclaimState → Type 0
@@ -172,21 +172,21 @@ pub record LeftByOwnSteps (j : ReclaimState) : Type 0 where
 
 -- agent a unmaps, in this run from j, each mapping of each batch that it brings to zero in it
 abbrev pub UnmapsItsOwn : ReclaimState → List Step → Agent → Type 0
-UnmapsItsOwn j more a = (p b : ℕ) → (run j more).batch p ≡ Some b → j.zeroed b ≡ None → (run j more).zeroed b ≡ Some a → Contains more (Unmap p a)
+UnmapsItsOwn j more a = (p b : ℕ) → (reclaim_run j more).batch p ≡ Some b → j.zeroed b ≡ None → (reclaim_run j more).zeroed b ≡ Some a → Contains more (Unmap p a)
 
 -- Where a worker with nothing left to free has then left, has paid what it owed, and has unmapped the mappings of each batch
 -- that it brought to zero, its seat owes nothing, and again it has nothing left to free
 abbrev pub LeaveReturns : ReclaimState → Type 0
 LeaveReturns j = (i : ℕ) (more : List Step) → MayRun j more → NothingLeft j (Worker i) → UnmapsItsOwn j more (Worker i)
-    → (IsIn (run j more).world i → ⊥) → (MayStep (run j more) (Pay i) → ⊥)
-    → ((b : ℕ) → owes (run j more).owed b (seat_at (run j more).owed i) ≡ false) × NothingLeft (run j more) (Worker i)
+    → (IsIn (reclaim_run j more).world i → ⊥) → (MayStep (reclaim_run j more) (Pay i) → ⊥)
+    → ((b : ℕ) → owes (reclaim_run j more).owed b (seat_at (reclaim_run j more).owed i) ≡ false) × NothingLeft (reclaim_run j more) (Worker i)
 
 -- Where the mover has settled the last batch on every slot before it opens another one, the batch is settled everywhere, so
 -- that the mover is idle; and where it had nothing left to free, and has unmapped the mappings of each batch that it brought
 -- to zero, again it has nothing left to free
 abbrev pub RetireReturns : ReclaimState → Type 0
 RetireReturns j = (more : List Step) → MayRun j more → (Contains more Open → ⊥) → ((s : ℕ) → s < length j.owed.slots → Contains more (Settle s))
-    → SettledEverywhere (run j more).owed (last_batch j.owed) × IsIdle (run j more).owed × (NothingLeft j Mover → UnmapsItsOwn j more Mover → NothingLeft (run j more) Mover)
+    → SettledEverywhere (reclaim_run j more).owed (last_batch j.owed) × IsIdle (reclaim_run j more).owed × (NothingLeft j Mover → UnmapsItsOwn j more Mover → NothingLeft (reclaim_run j more) Mover)
 
 -- ---- quiet
 
@@ -204,5 +204,5 @@ pub record AllIsGone (j : ReclaimState) (steps : List Step) : Type 0 where
   pub gone : (p b : ℕ) → j.batch p ≡ Some b → (status_of j.world p ≡ Some Gone) × (count_by (worlds.unmaps p) (events_of steps) ≡ 1)
 
 abbrev pub QuietIsGone : Type 0
-QuietIsGone = (slots workers : ℕ) (current : List ℕ) (steps : List Step) → IsSized slots workers → AllDiffer current → MayRun (opening slots workers current) steps
-    → IsQuiet (run (opening slots workers current) steps) → AllIsGone (run (opening slots workers current) steps) steps
+QuietIsGone = (slots workers : ℕ) (current : List ℕ) (steps : List Step) → IsSized slots workers → AllDiffer current → MayRun (reclaim_opening slots workers current) steps
+    → IsQuiet (reclaim_run (reclaim_opening slots workers current) steps) → AllIsGone (reclaim_run (reclaim_opening slots workers current) steps) steps

@@ -129,8 +129,8 @@ opening_entries i [] = []
 opening_entries i (p ∷ ps) = (p, mapping_of i Current) ∷ opening_entries (i + 1) ps
 
 -- the world at the opening: module i has the i-th mapping given, which is current, and nobody has entered or is inside
-abbrev pub opening : ℕ → List ℕ → EventWorld
-opening workers current =
+abbrev pub world_opening : ℕ → List ℕ → EventWorld
+world_opening workers current =
     record { workers = workers; modules = length current; mappings = map.from_entries (opening_entries 0 current); inside = map.empty; entered = set.empty }
 
 -- no number stands twice

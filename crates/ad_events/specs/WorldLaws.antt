@@ -9,11 +9,11 @@ use Rattle.ad_events.specs.declared.event.Event.{Event}
 use Rattle.ad_events.specs.declared.event.Event.TheVariants.{Enter, Read, Leave, Map, Switch, Retire, Unmap}
 use Rattle.ad_events.specs.Runs.{AllMay}
 use Rattle.ad_events.specs.Mapping.{rank_of}
-use Rattle.ad_events.specs.World.{EventWorld, mapping_of, status_of, IsLawful, effect, opening, AllDiffer, MayBeInside}
+use Rattle.ad_events.specs.World.{EventWorld, mapping_of, status_of, IsLawful, effect, world_opening, AllDiffer, MayBeInside}
 
 -- the world after a list of events
-abbrev pub run : EventWorld → List Event → EventWorld
-run w events = fold effect w events
+abbrev pub world_run : EventWorld → List Event → EventWorld
+world_run w events = fold effect w events
 
 -- each event of the list is lawful where it stands
 abbrev pub AllLawful : EventWorld → List Event → Type 0
@@ -21,15 +21,15 @@ AllLawful w events = AllMay IsLawful effect w events
 
 -- the law holds of the world after every list of lawful events from an opening
 abbrev pub AfterAllEvents : (EventWorld → Type 0) → Type 0
-AfterAllEvents Law = (workers : ℕ) (current : List ℕ) (events : List Event) → AllDiffer current → AllLawful (opening workers current) events → Law (run (opening workers current) events)
+AfterAllEvents Law = (workers : ℕ) (current : List ℕ) (events : List Event) → AllDiffer current → AllLawful (world_opening workers current) events → Law (world_run (world_opening workers current) events)
 
 -- what the world at the opening has: each mapping given, current in the module at its place, no other mapping, and nobody
 -- that has entered or is inside
 pub record OpeningHas (workers : ℕ) (current : List ℕ) : Type 0 where
-  pub given : (m : ℕ) → m < length current → map.get (opening workers current).mappings (slice_index current m) ≡ Some (mapping_of m Current)
-  pub no_other : (p : ℕ) (x : Mapping) → map.get (opening workers current).mappings p ≡ Some x → (m : ℕ) × (m < length current) × (slice_index current m ≡ p) × (x ≡ mapping_of m Current)
-  pub nobody_entered : (worker : ℕ) → set.contains (opening workers current).entered worker ≡ false
-  pub nobody_inside : (worker : ℕ) → map.get (opening workers current).inside worker ≡ None
+  pub given : (m : ℕ) → m < length current → map.get (world_opening workers current).mappings (slice_index current m) ≡ Some (mapping_of m Current)
+  pub no_other : (p : ℕ) (x : Mapping) → map.get (world_opening workers current).mappings p ≡ Some x → (m : ℕ) × (m < length current) × (slice_index current m ≡ p) × (x ≡ mapping_of m Current)
+  pub nobody_entered : (worker : ℕ) → set.contains (world_opening workers current).entered worker ≡ false
+  pub nobody_inside : (worker : ℕ) → map.get (world_opening workers current).inside worker ≡ None
 
 -- at every opening with different mappings
 abbrev pub AtEveryOpening : Type 0
@@ -57,7 +57,7 @@ EachGoesOn w = (e : Event) → IsLawful w e → (p : ℕ) → GoesOn (map.get w.
 
 -- a mapping stays in the world, and its status never goes back
 abbrev pub NeverBack : EventWorld → Type 0
-NeverBack w = (more : List Event) → AllLawful w more → (p : ℕ) (s : Status) → status_of w p ≡ Some s → (t : Status) × (status_of (run w more) p ≡ Some t) × (rank_of s ≤ rank_of t)
+NeverBack w = (more : List Event) → AllLawful w more → (p : ℕ) (s : Status) → status_of w p ≡ Some s → (t : Status) × (status_of (world_run w more) p ≡ Some t) × (rank_of s ≤ rank_of t)
 
 -- a mapping that a pair has is current, out or retired
 abbrev pub InsideIsHeld : EventWorld → Type 0
@@ -83,13 +83,13 @@ unmaps p (Unmap q) = q == p
 
 -- a mapping that is gone was unmapped by exactly one event
 abbrev pub GoneOnce : Type 0
-GoneOnce = (workers : ℕ) (current : List ℕ) (events : List Event) → AllDiffer current → AllLawful (opening workers current) events
-    → (p : ℕ) → status_of (run (opening workers current) events) p ≡ Some Gone → count_by (unmaps p) events ≡ 1
+GoneOnce = (workers : ℕ) (current : List ℕ) (events : List Event) → AllDiffer current → AllLawful (world_opening workers current) events
+    → (p : ℕ) → status_of (world_run (world_opening workers current) events) p ≡ Some Gone → count_by (unmaps p) events ≡ 1
 
 -- and one that isn't gone by none
 abbrev pub NotGoneNever : Type 0
-NotGoneNever = (workers : ℕ) (current : List ℕ) (events : List Event) → AllDiffer current → AllLawful (opening workers current) events
-    → (p : ℕ) → status_of (run (opening workers current) events) p ≢ Some Gone → count_by (unmaps p) events ≡ 0
+NotGoneNever = (workers : ℕ) (current : List ℕ) (events : List Event) → AllDiffer current → AllLawful (world_opening workers current) events
+    → (p : ℕ) → status_of (world_run (world_opening workers current) events) p ≢ Some Gone → count_by (unmaps p) events ≡ 0
 
 -- One worker, whose module 0 has mapping 1: the worker is inside mapping 1 when mapping 2 takes its place, so that mapping 1 is
 -- unmapped after the worker has left

@@ -1,6 +1,6 @@
 //! The laws of worlds, over every list of lawful events from an opening.
 ghost use Rattle.ad_events.specs.WorldLaws.{AfterAllEvents, AllLawful, AtEveryOpening, EachGoesOn, EnteredIsApart, GoneOnce, InsideIsHeld, NeverBack, NoneGoneInside, NotGoneNever, OneCurrent, worked_row};
-ghost use Rattle.ad_events.specs.World.{opening};
+ghost use Rattle.ad_events.specs.World.{world_opening};
 ghost use Rattle.std.specs.Prelude.{[], ◌∷◌};
 
 /// The world at the opening has each mapping given, current in its module, and no other; nobody has entered or is inside.
@@ -37,6 +37,6 @@ pub fn law_gone_once()
 {}
 
 /// The events of a world of one worker and one module, from its first mapping to the unmap of it, are lawful in turn.
-pub fn worked_row_is_lawful()
-    ensures lawful { AllLawful (opening 1 (1 ∷ [])) worked_row }
+pub fn law_worked_row_is_lawful()
+    ensures lawful { AllLawful (world_opening 1 (1 ∷ [])) worked_row }
 {}

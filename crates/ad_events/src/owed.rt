@@ -2,7 +2,7 @@
 //! slots, and the count of a batch says what it is still owed. The machine stands in the definitions. The
 //! functions here are its laws, over every list of steps from the opening, and at the end three computed examples.
 ghost use Rattle.std.specs.Prelude.{◌≡◌, ℕ, List, true};
-ghost use Rattle.ad_events.specs.Owed.{answers, count_of, opening, owed_of, owes, run, seat_at, MayRun};
+ghost use Rattle.ad_events.specs.Owed.{answers, count_of, owed_opening, owed_of, owes, owed_run, seat_at, MayRun};
 ghost use Rattle.ad_events.specs.OwedLaws.{AfterEveryRun, CountsAreOwed, HoldsAtOpening, InsideIsCounted, NothingBelowZero, NoZero, OneZero, QuietIsZero, SlotsTell, StepsKeep, TakesToZero, WordsFit, ZeroIsDone, ZeroStays};
 ghost use Rattle.ad_events.specs.OwedExamples.{entered_between, nobody_between, one_owes, one_owes_steps, paid_entry_number, schedule, schedule_answers};
 
@@ -55,15 +55,15 @@ pub fn law_quiet_is_zero()
 {}
 
 /// A schedule of two seats and two slots through all six steps, and what its steps answer.
-pub fn schedule_of_two()
-    ensures possible { MayRun (opening 2 2) schedule }
-    ensures answered { answers (opening 2 2) schedule ≡ schedule_answers }
-    ensures zero { count_of (run (opening 2 2) schedule) 1 ≡ 0 }
+pub fn law_schedule_of_two()
+    ensures possible { MayRun (owed_opening 2 2) schedule }
+    ensures answered { answers (owed_opening 2 2) schedule ≡ schedule_answers }
+    ensures zero { count_of (owed_run (owed_opening 2 2) schedule) 1 ≡ 0 }
 {}
 
 /// A mover that settles a slot before it pushes there, by a number that it loaded earlier, forgets a seat that enters
 /// between: the count is zero while that seat is inside and owes the batch. It is right only where nobody enters.
-pub fn settle_comes_after_push()
+pub fn law_settle_comes_after_push()
     ensures count { count_of entered_between 1 ≡ 0 }
     ensures owed { owed_of entered_between 1 ≡ 1 }
     ensures forgotten { owes entered_between 1 (seat_at entered_between 0) ≡ true }
@@ -72,8 +72,8 @@ pub fn settle_comes_after_push()
 {}
 
 /// A seat that pays also the batch whose number is its entry number takes the count below what is owed.
-pub fn entry_number_is_not_owed()
-    ensures possible { MayRun (opening 1 2) one_owes_steps }
+pub fn law_entry_number_is_not_owed()
+    ensures possible { MayRun (owed_opening 1 2) one_owes_steps }
     ensures count_before { count_of one_owes 1 ≡ 1 }
     ensures owed_before { owed_of one_owes 1 ≡ 1 }
     ensures count { count_of paid_entry_number 1 ≡ 0 }

@@ -37,14 +37,14 @@ impl Model for World {
 }
 
 impl World {
-    ghost use Rattle.ad_events.specs.World.{AllDiffer, IsLawful, TakesMemory, effect, mapping_of, opening, status_of};
+    ghost use Rattle.ad_events.specs.World.{AllDiffer, IsLawful, TakesMemory, effect, mapping_of, world_opening, status_of};
     ghost use Rattle.ad_events.specs.declared.event.Event.TheVariants.{Enter, Read, Leave, Map, Switch, Retire, Unmap};
 
     /// The world of so many workers, and of one module for each number given, whose current mapping has that number. The
     /// numbers differ. Want of memory may come.
     pub fn new(alloc: Global, workers: u64, current: &[u64]) -> Result<World, OutOfMemory>
         requires { AllDiffer current.now }
-        ensures { IfOk result (λ world. world ≡ opening workers current.now) }
+        ensures { IfOk result (λ world. world ≡ world_opening workers current.now) }
     {
         let mut mappings = ByNumber::new(alloc);
         for (module, &mapping) in current.iter().enumerate() {

@@ -9,21 +9,13 @@ ghost use Rattle.ad_form.specs.FormImage.{form_export, form_image};
 ghost use Rattle.ad_form.specs.Object.{IsText};
 
 use crate::read::Module;
-use crate::write::put_zeros;
 use ad_base::{
-    Export, Image, LOCAL_PAGES, Name, OutOfMemory, PAGE_BYTES, Place, STUB_PAGES, Sequence,
-    TABLE_PAGES,
+    Export, Image, LOCAL_PAGES, Name, OutOfMemory, Place, STUB_PAGES, Sequence, TABLE_PAGES,
 };
 use std::alloc::Global;
 
 /// Pages of the text of such a module.
 const TEXT_PAGES: u16 = 1;
-
-/// Bytes of the text and of the stubs behind it.
-const CODE_BYTES: u64 = (TEXT_PAGES + STUB_PAGES) as u64 * PAGE_BYTES;
-
-/// Bytes of the stubs of the immovable part.
-const FIXED_CODE_BYTES: u64 = STUB_PAGES as u64 * PAGE_BYTES;
 
 /// Pages of the immovable part of such a module: the stub page and the fixed table.
 pub const FIXED_PAGES: u16 = STUB_PAGES + TABLE_PAGES;
@@ -33,32 +25,13 @@ pub const FIXED_PAGES: u16 = STUB_PAGES + TABLE_PAGES;
 pub const MOVABLE_PAGES: u16 = TEXT_PAGES + STUB_PAGES + TABLE_PAGES + LOCAL_PAGES;
 
 /// The image of a module, whose immovable part lies at this place. It fails for want of memory alone.
+#[tactic(auto, unfolding(crate::specs::FormImage::form_image))]
 pub fn image_of(alloc: Global, module: Module, fixed: Place) -> Result<Image, OutOfMemory>
     requires text { IsText «module».text }
     ensures { IfOk result (λ image. image ≡ form_image «module» fixed) }
 {
     let Module { text, name } = module;
-    let padding = (CODE_BYTES - text.len()) as usize;
-    let mut code = text.into_vec();
-    put_zeros(&mut code, padding)?;
-    let mut fixed_code = Vec::new(alloc);
-    put_zeros(&mut fixed_code, FIXED_CODE_BYTES as usize)?;
-    Ok(Image {
-        text_pages: TEXT_PAGES,
-        read_pages: 0,
-        data_pages: 0,
-        code: Sequence::of(code),
-        cells: Sequence::of(Vec::new(alloc)),
-        writable: Sequence::of(Vec::new(alloc)),
-        table: Sequence::of(Vec::new(alloc)),
-        fixed_text_pages: 0,
-        fixed_read_pages: 0,
-        fixed_data_pages: 0,
-        fixed_code: Sequence::of(fixed_code),
-        fixed_data: Sequence::of(Vec::new(alloc)),
-        fixed,
-        exports: exports_of(alloc, name)?,
-    })
+    Image::of_text(alloc, text.into_vec(), exports_of(alloc, name)?, fixed)
 }
 
 /// The image of a module whose file has the form is whole, where its immovable part has a place for

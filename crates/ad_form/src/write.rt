@@ -160,7 +160,7 @@ fn next_eight(number: u64) -> u64
 }
 
 /// Appends zero bytes, as many as are asked for.
-pub(crate) fn put_zeros(file: &mut Vec<u8>, count: usize) -> Result<(), OutOfMemory>
+fn put_zeros(file: &mut Vec<u8>, count: usize) -> Result<(), OutOfMemory>
     ensures { OnOk result (file.new.items ≡ file.old.items ++ zeros count) }
 {
     for _ in 0..count {

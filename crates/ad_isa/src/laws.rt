@@ -21,7 +21,7 @@ pub fn law_worked_words()
     ensures own_address { decoded 0x00000517 ≡ Some (Instr.Auipc 10 (pos 0)) }
     ensures far_address { decoded 0x00004297 ≡ Some (Instr.Auipc 5 (pos 0x4000)) }
     ensures address_before { decoded 0xfffff517 ≡ Some (Instr.Auipc 10 (negsuc 4095)) }
-    ensures load_upper_immediate { decoded 0xffffc2b7 ≡ None }
-    ensures subtract { decoded 0x40b50533 ≡ None }
+    ensures load_upper_immediate { decoded 0xffffc2b7 ≡ Some (Instr.Lui 5 (negsuc 0x3fff)) }
+    ensures subtract { decoded 0x40b50533 ≡ Some (Instr.Op Alu.Sub 10 10 11) }
     ensures zero { decoded 0 ≡ None }
 {}

@@ -30,7 +30,7 @@ fn decodes_words(rt: HostRuntime) {
     let own_address = Instr::Auipc { rd: 10, imm: 0 };
     let far_address = Instr::Auipc { rd: 5, imm: 0x4000 };
     let address_before = Instr::Auipc { rd: 10, imm: -4096 };
-    // The last four are `sub a0, a0, a1`, `lui a0, 1`, `lui t0, 0xffffc` and no instruction.
+    // The last three are `csrrw zero, 0, zero`, `slli a0, a0, 64` and no instruction.
     for (word, want) in [
         (0x00b50533, Some(add)),
         (0x00008067, Some(return_jump)),
@@ -39,9 +39,8 @@ fn decodes_words(rt: HostRuntime) {
         (0x00000517, Some(own_address)),
         (0x00004297, Some(far_address)),
         (0xfffff517, Some(address_before)),
-        (0x40b50533, None),
-        (0x00001537, None),
-        (0xffffc2b7, None),
+        (0x0000_1073, None),
+        (0x0405_1513, None),
         (0, None),
     ] {
         assert_eq!(rt; decode(word), want, "at {word}");

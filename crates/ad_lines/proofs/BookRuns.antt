@@ -8,7 +8,7 @@ use Rattle.std.proofs.Math.ListN.{get_or-map, set}
 use Rattle.std.proofs.Math.Seq.{map-set_same}
 use Rattle.std.proofs.lemmas.Bool.Decides.{nat_tests}
 use Rattle.std.proofs.lemmas.List.{get_or-set_other, get_or-set_same, length-map, map-append, map-set}
-use Rattle.std.proofs.lemmas.List.Elements.{All-cons, All-head, All-nil, All-set, All-tail, All-weaker}
+use Rattle.std.proofs.lemmas.List.Elements.{All-filter, All-head, All-set, All-tail, All-weaker}
 use Rattle.std.proofs.lemmas.List.Sorted.{IsNonDecreasingBy-short}
 use Rattle.std.proofs.lemmas.List.Sums.{fold-append}
 use Rattle.std.proofs.lemmas.Option.{slice_get-map, slice_get_within}
@@ -24,12 +24,12 @@ use Rattle.ad_core.specs.Turn.{AreTurns, IsLawful, IsTurn, fixed_data_of, openin
 use Rattle.ad_lines.specs.declared.ready.ReadyStep.{ReadyStep}
 use Rattle.ad_lines.specs.declared.ready.ReadyStep.TheVariants.{Call, Move, Stack}
 use Rattle.ad_lines.specs.LineRun.{ModuleState, RunState, after_step, line_run, with_call, with_module_moved}
-use Rattle.ad_lines.specs.LineLaws.{Asking, IsEntryOf, asked_by, asked_of_module, asking_of, line_of}
+use Rattle.ad_lines.specs.LineLaws.{IsEntryOf, calls_of_module, line_of, step_of}
 use Rattle.ad_lines.specs.Ready.{IsRunnable}
-use Rattle.ad_lines.specs.Room.{images_of}
+use Rattle.ad_lines.specs.Room.{images_of, is_call_of}
 use Rattle.ad_lines.proofs.Kept.{fold-keeps, keeps-step, read}
 use Rattle.ad_lines.proofs.Opens.{there}
-use Rattle.ad_lines.proofs.Elements.{all-back, all-flat, all-front, all-read, pairs-head, pairs-tail, rises-cons, read-seam}
+use Rattle.ad_lines.proofs.Elements.{all-back, all-front, all-read, pairs-head, pairs-tail, rises-cons, read-seam}
 use Rattle.ad_lines.proofs.StepCases.{call-is, call-keeps, call_at, called, fresh-keeps, move-keeps}
 
 -- one more turn behind the others
@@ -130,20 +130,29 @@ history_at s number = get_or (histories s.modules) number []
 pub history-there : (s : RunState) (number : ℕ) (m : ModuleState) → slice_get s.modules number ≡ Some m → history_at s number ≡ m.book.entries
 history-there s number m e = read (histories s.modules) number m.book.entries [] (slice_get-map (λ (x : ModuleState). x.book.entries) s.modules number ∙ ap (option_map (λ (x : ModuleState). x.book.entries)) e)
 
--- the entries of a module grow by those that are asked of it
-pub record Grows (number : ℕ) (asked : List Asking) (s t : RunState) : Type 0 where
+-- the step alone, if it calls the module
+abbrev called_by : ℕ → ReadyStep → List ReadyStep
+called_by number step = if is_call_of number step then step ∷ [] else []
+
+-- steps that call it, one by one
+one-more : (b : Bool) (step : ReadyStep) (steps : List ReadyStep) → (if b then step ∷ [] else []) ++ steps ≡ (if b then step ∷ steps else steps)
+one-more true step steps = refl
+one-more false step steps = refl
+
+-- the entries of a module grow by those of steps
+pub record Grows (number : ℕ) (steps : List ReadyStep) (s t : RunState) : Type 0 where
   pub more : List Entry
   pub are : history_at t number ≡ history_at s number ++ more
-  pub asked_are : map asking_of more ≡ asked
+  pub of_steps : map (step_of number) more ≡ steps
 
 grows-none : (number : ℕ) (s t : RunState) → histories t.modules ≡ histories s.modules → Grows number [] s t
-grows-none number s t e = record { more = []; are = ap (λ hs. get_or hs number []) e ∙ sym (append-nil (history_at s number)); asked_are = refl }
+grows-none number s t e = record { more = []; are = ap (λ hs. get_or hs number []) e ∙ sym (append-nil (history_at s number)); of_steps = refl }
 
-grows-trans : (number : ℕ) (a b : List Asking) (s t u : RunState) → Grows number a s t → Grows number b t u → Grows number (a ++ b) s u
+grows-trans : (number : ℕ) (a b : List ReadyStep) (s t u : RunState) → Grows number a s t → Grows number b t u → Grows number (a ++ b) s u
 grows-trans number a b s t u g h = record {
   more = g.more ++ h.more;
   are = h.are ∙ ap (λ es. es ++ h.more) g.are ∙ append_assoc (history_at s number) g.more h.more;
-  asked_are = map-append asking_of g.more h.more ∙ (λ j. g.asked_are j ++ h.asked_are j);
+  of_steps = map-append (step_of number) g.more h.more ∙ (λ j. g.of_steps j ++ h.of_steps j);
 }
 
 module _ (fuel : ℕ) (s : RunState) (line worker n export : ℕ) (args : List ℕ) (m : ModuleState) (stack : Place) (there_is : slice_get s.modules n ≡ Some m) where
@@ -151,9 +160,9 @@ module _ (fuel : ℕ) (s : RunState) (line worker n export : ℕ) (args : List �
   pub made : Entry
   made = let c = call_at fuel s line worker n export args m stack in entry_of c args (outcome_of m.image fuel m.book c args)
 
-  pub made-is : IsEntryOf (record { line = line; worker = worker; export = export; args = args }) m.part stack made
+  pub made-is : IsEntryOf n (Call line worker n export args) m.movable stack made
   unfolding made
-  made-is = record { asked = refl; at_place = refl; on_stack = refl }
+  made-is = record { of_step = refl; at_place = refl; on_stack = refl }
 
   histories-called : histories (called fuel s line worker n export args m stack).modules ≡ set (histories s.modules) n (m.book.entries ++ made ∷ [])
   unfolding made after_call
@@ -165,24 +174,24 @@ module _ (fuel : ℕ) (s : RunState) (line worker n export : ℕ) (args : List �
       let within : n < length (histories s.modules) = omega (arith, slice_get_within s.modules n m there_is, length-map s.modules (λ (x : ModuleState). x.book.entries)) in
       ap (λ hs. get_or hs n []) histories-called ∙ get_or-set_same (histories s.modules) n (m.book.entries ++ made ∷ []) [] within
 
-  grows-by : (number : ℕ) (b : Bool) → nat_eq n number ≡ b → Grows number (if b then record { line = line; worker = worker; export = export; args = args } ∷ [] else []) s (called fuel s line worker n export args m stack)
+  grows-by : (number : ℕ) (b : Bool) → nat_eq n number ≡ b → Grows number (if b then Call line worker n export args ∷ [] else []) s (called fuel s line worker n export args m stack)
   unfolding made
   grows-by number true is =
       let same : n ≡ number = eqb-true n number is in
       record {
         more = made ∷ [];
         are = subst (λ k. history_at (called fuel s line worker n export args m stack) k ≡ history_at s k ++ made ∷ []) same (history-called ∙ ap (λ es. es ++ made ∷ []) (sym (history-there s n m there_is)));
-        asked_are = refl;
+        of_steps = ap (λ k. Call line worker k export args ∷ []) (sym same);
       }
   grows-by number false is =
       let other : number ≢ n = λ e. grind (arith, nat_tests, is, e) in
       record {
         more = [];
         are = ap (λ hs. get_or hs number []) histories-called ∙ get_or-set_other (histories s.modules) n number (m.book.entries ++ made ∷ []) [] other ∙ sym (append-nil (history_at s number));
-        asked_are = refl;
+        of_steps = refl;
       }
 
-  grows-called : (number : ℕ) → Grows number (asked_by number (Call line worker n export args)) s (called fuel s line worker n export args m stack)
+  grows-called : (number : ℕ) → Grows number (called_by number (Call line worker n export args)) s (called fuel s line worker n export args m stack)
   grows-called number = grows-by number (nat_eq n number) refl
 
 histories-moved : (line : ℕ) (s : RunState) (n : ℕ) → histories (with_module_moved line s n).modules ≡ histories s.modules
@@ -191,74 +200,54 @@ histories-moved line s n =
     (λ m e. map-set_same (λ (x : ModuleState). x.book.entries) s.modules n _ m (ap (λ (x : ModuleState). x.book.entries) (sym (read s.modules n m m e))))
 
 module _ (images : List Image) (workers fuel number : ℕ) where
-  grows-step : (s : RunState) (step : ReadyStep) → IsRunnable images workers step → AreThere images workers s → Grows number (asked_by number step) s (after_step fuel s step)
+  grows-step : (s : RunState) (step : ReadyStep) → IsRunnable images workers step → AreThere images workers s → Grows number (called_by number step) s (after_step fuel s step)
   unfolding after_step
   grows-step s (Call line worker n export args) runs h =
       let m = there s.modules n (omega (arith, runs.2, ap length h.images_are, length-map s.modules (λ (x : ModuleState). x.image))) in
       let stack = there s.stacks worker (omega (arith, runs.0, h.stacks_are)) in
-      subst (Grows number (asked_by number (Call line worker n export args)) s) (sym (call-is fuel s line worker n export args m.0 stack.0 m.1 stack.1)) (grows-called fuel s line worker n export args m.0 stack.0 m.1 number)
+      subst (Grows number (called_by number (Call line worker n export args)) s) (sym (call-is fuel s line worker n export args m.0 stack.0 m.1 stack.1)) (grows-called fuel s line worker n export args m.0 stack.0 m.1 number)
   grows-step s (Move line modules) runs h =
       grows-none number s (fold (with_module_moved line) s modules)
       (fold-keeps (λ t. histories t.modules ≡ histories s.modules) (with_module_moved line) (λ t n e. histories-moved line t n ∙ e) s modules refl)
   grows-step s (Stack line worker) runs h = fresh-keeps line s worker (λ t. Grows number [] s t) (grows-none number s s refl) (λ stack e. grows-none number s _ refl)
 
-  -- steps that may be run add to the entries of a module what they ask of it
-  pub grows-run : (s : RunState) (steps : List ReadyStep) → All (IsRunnable images workers) steps → AreThere images workers s → Grows number (asked_of_module number steps) s (line_run fuel s steps)
+  -- steps that may be run add to the entries of a module those of the calls among them
+  pub grows-run : (s : RunState) (steps : List ReadyStep) → All (IsRunnable images workers) steps → AreThere images workers s → Grows number (calls_of_module number steps) s (line_run fuel s steps)
   grows-run s [] runs h = grows-none number s s refl
   grows-run s (step ∷ steps) runs h =
       let next = after_step fuel s step in
-      grows-trans number (asked_by number step) (asked_of_module number steps) s next (line_run fuel next steps)
+      subst (λ made. Grows number made s (line_run fuel next steps)) (one-more (is_call_of number step) step (calls_of_module number steps))
+      (grows-trans number (called_by number step) (calls_of_module number steps) s next (line_run fuel next steps)
       (grows-step s step (All-head (IsRunnable images workers) step steps runs) h)
-      (grows-run next steps (All-tail (IsRunnable images workers) step steps runs) (there-step images workers fuel s step h))
+      (grows-run next steps (All-tail (IsRunnable images workers) step steps runs) (there-step images workers fuel s step h)))
 
-asked-by : (P : Asking → Type 0) (a : Asking) (b : Bool) → P a → All P (if b then a ∷ [] else [])
-asked-by P a true p = All-cons P a [] p (All-nil P)
-asked-by P a false p = All-nil P
+-- the lines of the steps that call a module rise
+rise-kept : (b : Bool) (step : ReadyStep) (steps : List ReadyStep) → All (λ t. line_of step < line_of t) steps → IsNonDecreasingBy line_of steps → IsNonDecreasingBy line_of (if b then step ∷ steps else steps)
+rise-kept true step steps low h = rises-cons line_of step steps (All-weaker (λ t. line_of step < line_of t) (λ t. line_of step ≤ line_of t) (λ t less. omega arith) steps low) h
+rise-kept false step steps low h = h
 
--- what a step asks has its line
-asked-lines : (number : ℕ) (step : ReadyStep) (P : ℕ → Type 0) → P (line_of step) → All (λ (a : Asking). P a.line) (asked_by number step)
-asked-lines number (Call line worker n export args) P p = asked-by (λ (a : Asking). P a.line) (record { line = line; worker = worker; export = export; args = args }) (nat_eq n number) p
-asked-lines number (Move line modules) P p = All-nil (λ (a : Asking). P a.line)
-asked-lines number (Stack line worker) P p = All-nil (λ (a : Asking). P a.line)
-
--- the line of what is asked
-abbrev asked_line : Asking → ℕ
-asked_line a = a.line
-
-rise-by : (a : Asking) (b : Bool) (rest : List Asking) → All (λ (x : Asking). a.line < x.line) rest → IsNonDecreasingBy asked_line rest → IsNonDecreasingBy asked_line ((if b then a ∷ [] else []) ++ rest)
-rise-by a true rest low h = rises-cons asked_line a rest (All-weaker (λ (x : Asking). a.line < x.line) (λ (x : Asking). a.line ≤ x.line) (λ x less. omega arith) rest low) h
-rise-by a false rest low h = h
-
-rise-step : (number : ℕ) (step : ReadyStep) (rest : List Asking) → All (λ (x : Asking). line_of step < x.line) rest → IsNonDecreasingBy asked_line rest → IsNonDecreasingBy asked_line (asked_by number step ++ rest)
-rise-step number (Call line worker n export args) rest low h = rise-by (record { line = line; worker = worker; export = export; args = args }) (nat_eq n number) rest low h
-rise-step number (Move line modules) rest low h = h
-rise-step number (Stack line worker) rest low h = h
-
--- the lines of what steps ask rise as the steps' do
-pub asked-rise : (number : ℕ) (steps : List ReadyStep) → AllPairs (λ (s t : ReadyStep). line_of s < line_of t) steps → IsNonDecreasingBy asked_line (asked_of_module number steps)
-asked-rise number [] h = IsNonDecreasingBy-short asked_line [] (omega arith)
-asked-rise number (step ∷ steps) h =
+pub steps-rise : (number : ℕ) (steps : List ReadyStep) → AllPairs (λ (s t : ReadyStep). line_of s < line_of t) steps → IsNonDecreasingBy line_of (calls_of_module number steps)
+steps-rise number [] h = IsNonDecreasingBy-short line_of [] (omega arith)
+steps-rise number (step ∷ steps) h =
     let R : ReadyStep → ReadyStep → Type 0 = λ s t. line_of s < line_of t in
-    let later = all-flat (λ (a : Asking). line_of step < a.line) (asked_by number) steps
-    (All-weaker (R step) (λ t. All (λ (a : Asking). line_of step < a.line) (asked_by number t)) (λ t less. asked-lines number t (λ l. line_of step < l) less) steps (pairs-head R step steps h)) in
-    rise-step number step (asked_of_module number steps) later (asked-rise number steps (pairs-tail R step steps h))
+    rise-kept (is_call_of number step) step (calls_of_module number steps) (All-filter (is_call_of number) (R step) steps (pairs-head R step steps h)) (steps-rise number steps (pairs-tail R step steps h))
 
--- and so do those of entries of which just this was asked
-pub entries-rise : (es : List Entry) (asked : List Asking) → map asking_of es ≡ asked → IsNonDecreasingBy asked_line asked → IsNonDecreasingBy (λ (e : Entry). e.line) es
-entries-rise es asked same h i j d le within =
-    let long : length es ≡ length asked = sym (length-map es asking_of) ∙ ap length same in
-    let low = h i j (asking_of d) le (omega arith) in
-    let at : (k : ℕ) → get_or asked k (asking_of d) ≡ asking_of (get_or es k d) = λ k. ap (λ xs. get_or xs k (asking_of d)) (sym same) ∙ get_or-map asking_of es k d in
-    omega (arith, low, ap asked_line (at i), ap asked_line (at j))
+-- and so do those of their entries
+pub entries-rise : (number : ℕ) (es : List Entry) (steps : List ReadyStep) → map (step_of number) es ≡ steps → IsNonDecreasingBy line_of steps → IsNonDecreasingBy (λ (e : Entry). e.line) es
+entries-rise number es steps same h i j d le within =
+    let long : length es ≡ length steps = sym (length-map es (step_of number)) ∙ ap length same in
+    let low = h i j (step_of number d) le (omega arith) in
+    let at : (k : ℕ) → get_or steps k (step_of number d) ≡ step_of number (get_or es k d) = λ k. ap (λ xs. get_or xs k (step_of number d)) (sym same) ∙ get_or-map (step_of number) es k d in
+    omega (arith, low, ap line_of (at i), ap line_of (at j))
 
 module _ (images : List Image) (workers fuel : ℕ) (s : RunState) where
-  -- from a run in which a module has no entry, its entries are of what steps ask
+  -- from a run in which a module has no entry, its entries are those of the steps that call it
   pub entries-of-run : (steps : List ReadyStep) (number : ℕ) (m : ModuleState) → All (IsRunnable images workers) steps → AreThere images workers s → history_at s number ≡ []
-      → slice_get (line_run fuel s steps).modules number ≡ Some m → map asking_of m.book.entries ≡ asked_of_module number steps
+      → slice_get (line_run fuel s steps).modules number ≡ Some m → map (step_of number) m.book.entries ≡ calls_of_module number steps
   entries-of-run steps number m runs h none is =
       let g = grows-run images workers fuel number s steps runs h in
       let all : m.book.entries ≡ g.more = sym (history-there (line_run fuel s steps) number m is) ∙ g.are ∙ ap (λ es. es ++ g.more) none in
-      ap (map asking_of) all ∙ g.asked_are
+      ap (map (step_of number)) all ∙ g.of_steps
 
   there-run : (steps : List ReadyStep) → AreThere images workers s → AreThere images workers (line_run fuel s steps)
   there-run steps h = fold-keeps (AreThere images workers) (after_step fuel) (λ t step k. there-step images workers fuel t step k) s steps h
@@ -268,7 +257,7 @@ module _ (images : List Image) (workers fuel : ℕ) (s : RunState) where
       → All (IsRunnable images workers) (before ++ Call line worker number export args ∷ after) → AreThere images workers s → history_at s number ≡ []
       → slice_get (line_run fuel s before).modules number ≡ Some earlier → slice_get (line_run fuel s before).stacks worker ≡ Some stack
       → slice_get (line_run fuel s (before ++ Call line worker number export args ∷ after)).modules number ≡ Some now
-      → IsSomeAnd (slice_get now.book.entries (length (asked_of_module number before))) (IsEntryOf (record { line = line; worker = worker; export = export; args = args }) earlier.part stack)
+      → IsSomeAnd (slice_get now.book.entries (length (calls_of_module number before))) (IsEntryOf number (Call line worker number export args) earlier.movable stack)
   unfolding after_step
   entry-of-call before after line worker number export args earlier now stack runs h none was on is =
       let step = Call line worker number export args in
@@ -287,7 +276,7 @@ module _ (images : List Image) (workers fuel : ℕ) (s : RunState) where
       ∙ g.are
       ∙ ap (λ es. es ++ g.more) (history-called fuel t line worker number export args earlier stack was)
       ∙ append_assoc earlier.book.entries (e ∷ []) g.more in
-      let long : length earlier.book.entries ≡ length (asked_of_module number before) = sym (length-map earlier.book.entries asking_of) ∙ ap length (entries-of-run before number earlier first h none was) in
-      let found : slice_get now.book.entries (length (asked_of_module number before)) ≡ Some e = (λ j. slice_get (all j) (sym long j)) ∙ read-seam earlier.book.entries e g.more in
-      subst (λ o. IsSomeAnd o (IsEntryOf (record { line = line; worker = worker; export = export; args = args }) earlier.part stack)) (sym found)
+      let long : length earlier.book.entries ≡ length (calls_of_module number before) = sym (length-map earlier.book.entries (step_of number)) ∙ ap length (entries-of-run before number earlier first h none was) in
+      let found : slice_get now.book.entries (length (calls_of_module number before)) ≡ Some e = (λ j. slice_get (all j) (sym long j)) ∙ read-seam earlier.book.entries e g.more in
+      subst (λ o. IsSomeAnd o (IsEntryOf number (Call line worker number export args) earlier.movable stack)) (sym found)
       (made-is fuel t line worker number export args earlier stack was)

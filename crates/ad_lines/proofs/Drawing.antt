@@ -1,5 +1,5 @@
 -- What the moves of a run draw, what came of them, and what they move.
-use Rattle.std.proofs.Common.{◌≡◌, ◌≢◌, ℕ, suc, ◌+◌, ◌-◌, ◌*◌, ◌<◌, ◌≤◌, Bool, true, false, ◌==◌, ◌&&◌, List, [], ◌∷◌, ◌++◌, length, map, fold, drop, get_or, slice_get, Option, Some, None, inl, inr, refl, sym, ap, subst, ◌∙◌, append_assoc, append-nil, eq-eqb, unwrap_or, length-drop, length-take, arith}
+use Rattle.std.proofs.Common.{◌≡◌, ◌≢◌, ℕ, suc, ◌+◌, ◌-◌, ◌*◌, ◌<◌, ◌≤◌, Bool, true, false, ◌==◌, ◌&&◌, List, [], ◌∷◌, ◌++◌, length, map, fold, get_or, slice_get, Option, Some, None, inl, inr, refl, sym, ap, subst, ◌∙◌, append_assoc, append-nil, eq-eqb, unwrap_or, arith}
 use Rattle.std.specs.Prelude.{nat_lt, if◌then◌else◌}
 use Rattle.std.specs.List.{All, AllPairs, flat_map}
 use Rattle.std.specs.List.Sorted.{IsNonDecreasingBy}
@@ -24,15 +24,16 @@ use Rattle.ad_call.specs.declared.call.Call.{Call}
 use Rattle.ad_place.specs.Choice.{Drawn, drawn_from, next_place, places_of, with_next}
 use Rattle.ad_lines.specs.declared.ready.ReadyStep.{ReadyStep}
 use Rattle.ad_lines.specs.declared.ready.ReadyStep.TheVariants as steps
-use Rattle.ad_lines.specs.LineLaws.{AreMoveEnds, AreSteps, IsMoveEnd, Moving, last_place, line_of, moved_by, moving_of, request_of, run_of_seed, thing_pages}
+use Rattle.ad_lines.specs.LineLaws.{AreMoveEnds, AreSteps, IsMoveEnd, MoveRequest, last_place, line_of, move_requests, move_request, draw_of, run_of_seed, thing_pages}
 use Rattle.ad_lines.specs.LineRun.{ModuleState, Placement, RunState, after_move, after_step, drawn_after, line_run, move_end, place_after, with_module_moved}
-use Rattle.ad_lines.specs.Opening.{AreLoaded, opening_drawn, opening_modules, opening_requests, opening_run}
+use Rattle.ad_lines.specs.Opening.{AreLoaded, drawn_for, opening_drawn, opening_requests, opening_run}
 use Rattle.ad_lines.specs.Ready.{IsRunnable}
 use Rattle.ad_lines.specs.Room.{images_of}
 use Rattle.ad_lines.proofs.Kept.{keeps-step}
 use Rattle.ad_lines.proofs.ListReads.{Each, each-push, read-map, set-read}
 use Rattle.ad_lines.proofs.OpenRuns.{run-opens}
 use Rattle.ad_lines.proofs.Opened.{opening-there}
+use Rattle.ad_lines.proofs.Asked.{length-requests}
 use Rattle.ad_lines.proofs.Opens.{length-drawn, there}
 use Rattle.ad_lines.proofs.RunKeeps.{IsKept, called_run, given_run, moved_run, run-keeps, step-keeps}
 
@@ -51,7 +52,7 @@ ends-push n (x ∷ xs) m are is = (are.0, ends-push (n + length (made_mapping x)
 
 -- the places are those of the requests so far, and each move came to its end
 record IsDrawn (images : List Image) (start : Drawn) (requests : List (Kind × ℕ)) (count : ℕ) (p : Placement) : Type 0 where
-  drawn : p.drawn ≡ drawn_from start (requests ++ flat_map (request_of images) p.moves)
+  drawn : p.drawn ≡ drawn_from start (requests ++ flat_map (draw_of images) p.moves)
   ends : AreMoveEnds count p.moves
   counted : drawn_by count p.moves ≡ length p.drawn.places
 
@@ -65,7 +66,7 @@ end-by d kind pages false is =
     record { spent = ((λ e. all), (λ x. refl)); not_busy = λ owner e. cc }
 
 -- what a move of a thing draws is what it asks for
-draws : (images : List Image) (d : Drawn) (line : ℕ) (kind : Kind) (who pages : ℕ) (b : Bool) → pages ≡ thing_pages images kind who → (let end = if b then Made (next_place d kind pages) else Spent in drawn_after d kind pages end ≡ drawn_from d (request_of images (record { line = line; kind = kind; who = who; end = end })))
+draws : (images : List Image) (d : Drawn) (line : ℕ) (kind : Kind) (who pages : ℕ) (b : Bool) → pages ≡ thing_pages images kind who → (let end = if b then Made (next_place d kind pages) else Spent in drawn_after d kind pages end ≡ drawn_from d (draw_of images (record { line = line; kind = kind; who = who; end = end })))
 draws images d line kind who pages true same = ap (with_next d kind) same
 draws images d line kind who pages false same = refl
 
@@ -82,16 +83,16 @@ drawn-move images start requests count p line kind who old same h =
     let b = nat_lt (length p.drawn.places) MAPPINGS in
     record {
       drawn = draws images p.drawn line kind who old.pages b same
-          ∙ ap (λ x. drawn_from x (request_of images m)) h.drawn
-          ∙ sym (fold-append (λ (x : Drawn) (o : Kind × ℕ). with_next x o.0 o.1) start (requests ++ flat_map (request_of images) p.moves) (request_of images m))
-          ∙ ap (drawn_from start) (flat_map_more (request_of images) requests p.moves m);
+          ∙ ap (λ x. drawn_from x (draw_of images m)) h.drawn
+          ∙ sym (fold-append (λ (x : Drawn) (o : Kind × ℕ). with_next x o.0 o.1) start (requests ++ flat_map (draw_of images) p.moves) (draw_of images m))
+          ∙ ap (drawn_from start) (flat_map_more (draw_of images) requests p.moves m);
       ends = ends-push count p.moves m h.ends (subst (λ n. IsMoveEnd n end) (sym h.counted) (end-by p.drawn kind old.pages b refl));
       counted = drawn_by-push count p.moves m ∙ ap (λ n. n + length (made_mapping m)) h.counted ∙ sym (draws-count p.drawn line kind who old.pages b);
     }
 
 -- each module's part and each stack has the pages of its thing
 record HavePages (images : List Image) (s : RunState) : Type 0 where
-  parts : (n : ℕ) (m : ModuleState) → slice_get s.modules n ≡ Some m → m.part.pages ≡ thing_pages images kinds.Code n
+  parts : (n : ℕ) (m : ModuleState) → slice_get s.modules n ≡ Some m → m.movable.pages ≡ thing_pages images kinds.Code n
   stacks : (n : ℕ) (p : Place) → slice_get s.stacks n ≡ Some p → p.pages ≡ STACK_PAGES
 
 -- the place after a move has the pages of the old one
@@ -104,7 +105,7 @@ module _ (images : List Image) (s : RunState) (h : HavePages images s) where
   pages-called : (n : ℕ) (m : ModuleState) (fuel : ℕ) (c : Call) (args : List ℕ) → slice_get s.modules n ≡ Some m → HavePages images (called_run s n m fuel c args)
   pages-called n m fuel c args there = record {
     parts = λ k x e. elim (set-read s.modules n _ k x e) [
-      | inl this ↦ sym (ap (λ (y : ModuleState). y.part.pages) this.1) ∙ h.parts k m (ap (slice_get s.modules) this.0 ∙ there)
+      | inl this ↦ sym (ap (λ (y : ModuleState). y.movable.pages) this.1) ∙ h.parts k m (ap (slice_get s.modules) this.0 ∙ there)
       | inr other ↦ h.parts k x other.1
     ];
     stacks = h.stacks;
@@ -114,8 +115,8 @@ module _ (images : List Image) (s : RunState) (h : HavePages images s) where
   pages-moved line n m there = record {
     parts = λ k x e. elim (set-read s.modules n _ k x e) [
       | inl this ↦
-          sym (ap (λ (y : ModuleState). y.part.pages) this.1)
-          ∙ same-pages s.placement.drawn kinds.Code m.part (nat_lt (length s.placement.drawn.places) MAPPINGS)
+          sym (ap (λ (y : ModuleState). y.movable.pages) this.1)
+          ∙ same-pages s.placement.drawn kinds.Code m.movable (nat_lt (length s.placement.drawn.places) MAPPINGS)
           ∙ h.parts k m (ap (slice_get s.modules) this.0 ∙ there)
       | inr other ↦ h.parts k x other.1
     ];
@@ -152,7 +153,7 @@ ordered-move line p kind who old h = ordered-push p.moves (record { line = line;
 ordered-kept : (line : ℕ) → IsKept (λ s. IsOrdered line s.placement.moves) (λ n. n ≡ line)
 ordered-kept line = record {
   call = λ s n m fuel c args there h. h;
-  move = λ s at n m same there h. subst (λ i. IsOrdered line (after_move s.placement i kinds.Code n m.part).moves) (sym same) (ordered-move line s.placement kinds.Code n m.part h);
+  move = λ s at n m same there h. subst (λ i. IsOrdered line (after_move s.placement i kinds.Code n m.movable).moves) (sym same) (ordered-move line s.placement kinds.Code n m.movable h);
   stack = λ s at worker stack same there h. subst (λ i. IsOrdered line (after_move s.placement i kinds.Stack worker stack).moves) (sym same) (ordered-move line s.placement kinds.Stack worker stack h);
 }
 
@@ -179,7 +180,7 @@ last-same kind who first moves m same = last-push kind who first moves m ∙ ap 
 
 -- all of a run lie where the last moves of them put them
 record AreLast (first s : RunState) : Type 0 where
-  parts : (n : ℕ) (a b : ModuleState) → slice_get first.modules n ≡ Some a → slice_get s.modules n ≡ Some b → b.part ≡ last_place kinds.Code n a.part s.placement.moves
+  parts : (n : ℕ) (a b : ModuleState) → slice_get first.modules n ≡ Some a → slice_get s.modules n ≡ Some b → b.movable ≡ last_place kinds.Code n a.movable s.placement.moves
   stacks : (n : ℕ) (a b : Place) → slice_get first.stacks n ≡ Some a → slice_get s.stacks n ≡ Some b → b ≡ last_place kinds.Stack n a s.placement.moves
 
 apart-numbers : (a b : ℕ) → a ≢ b → (a == b) ≡ false
@@ -189,7 +190,7 @@ module _ (first s : RunState) (h : AreLast first s) where
   last-called : (n : ℕ) (m : ModuleState) (fuel : ℕ) (c : Call) (args : List ℕ) → slice_get s.modules n ≡ Some m → AreLast first (called_run s n m fuel c args)
   last-called n m fuel c args there = record {
     parts = λ k a b e f. elim (set-read s.modules n _ k b f) [
-      | inl this ↦ sym (ap (λ (x : ModuleState). x.part) this.1) ∙ h.parts k a m e (ap (slice_get s.modules) this.0 ∙ there)
+      | inl this ↦ sym (ap (λ (x : ModuleState). x.movable) this.1) ∙ h.parts k a m e (ap (slice_get s.modules) this.0 ∙ there)
       | inr other ↦ h.parts k a b e other.1
     ];
     stacks = h.stacks;
@@ -198,15 +199,15 @@ module _ (first s : RunState) (h : AreLast first s) where
   last-moved : (line n : ℕ) (m : ModuleState) → slice_get s.modules n ≡ Some m → AreLast first (moved_run s line n m)
   unfolding after_move
   last-moved line n m there =
-      let end = move_end s.placement.drawn kinds.Code m.part.pages in
+      let end = move_end s.placement.drawn kinds.Code m.movable.pages in
       let x : Moved = record { line = line; kind = kinds.Code; who = n; end = end } in
       let moves = s.placement.moves in
       record {
         parts = λ k a b e f. elim (set-read s.modules n _ k b f) [
           | inl this ↦
               let old = h.parts k a m e (ap (slice_get s.modules) this.0 ∙ there) in
-              sym (ap (λ (y : ModuleState). y.part) this.1) ∙ ap (λ q. place_after q end) old ∙ sym (last-same kinds.Code k a.part moves x (eq-eqb k n this.0))
-          | inr other ↦ h.parts k a b e other.1 ∙ sym (last-other kinds.Code k a.part moves x (apart-numbers k n other.0))
+              sym (ap (λ (y : ModuleState). y.movable) this.1) ∙ ap (λ q. place_after q end) old ∙ sym (last-same kinds.Code k a.movable moves x (eq-eqb k n this.0))
+          | inr other ↦ h.parts k a b e other.1 ∙ sym (last-other kinds.Code k a.movable moves x (apart-numbers k n other.0))
         ];
         stacks = λ k a b e f. h.stacks k a b e f ∙ sym (last-other kinds.Stack k a moves x refl);
       }
@@ -218,7 +219,7 @@ module _ (first s : RunState) (h : AreLast first s) where
       let x : Moved = record { line = line; kind = kinds.Stack; who = worker; end = end } in
       let moves = s.placement.moves in
       record {
-        parts = λ k a b e f. h.parts k a b e f ∙ sym (last-other kinds.Code k a.part moves x refl);
+        parts = λ k a b e f. h.parts k a b e f ∙ sym (last-other kinds.Code k a.movable moves x refl);
         stacks = λ k a b e f. elim (set-read s.stacks worker _ k b f) [
           | inl this ↦
               let old = h.stacks k a stack e (ap (slice_get s.stacks) this.0 ∙ there) in
@@ -228,56 +229,56 @@ module _ (first s : RunState) (h : AreLast first s) where
       }
 
 -- what a line moves of a module
-abbrev moving : ℕ → ℕ → Moving
+abbrev moving : ℕ → ℕ → MoveRequest
 moving line n = record { line = line; kind = kinds.Code; who = n }
 
 -- a module that is there is moved
 record MovesOne (line n : ℕ) (s t : RunState) : Type 0 where
-  more : map moving_of t.placement.moves ≡ map moving_of s.placement.moves ++ moving line n ∷ []
+  more : map move_request t.placement.moves ≡ map move_request s.placement.moves ++ moving line n ∷ []
   size : length t.modules ≡ length s.modules
 
 moves-one : (line : ℕ) (s : RunState) (n : ℕ) (o : Option ModuleState) → slice_get s.modules n ≡ o → n < length s.modules → MovesOne line n s (option_map_or (λ m. moved_run s line n m) o s)
 unfolding after_move
 moves-one line s n None e within = let found = there s.modules n within in absurd (none-some found.0 (sym e ∙ found.1))
 moves-one line s n (Some m) e within = record {
-  more = map_push moving_of s.placement.moves (record { line = line; kind = kinds.Code; who = n; end = move_end s.placement.drawn kinds.Code m.part.pages });
+  more = map_push move_request s.placement.moves (record { line = line; kind = kinds.Code; who = n; end = move_end s.placement.drawn kinds.Code m.movable.pages });
   size = length-set s.modules n _;
 }
 
 moves-all : (line count : ℕ) (s : RunState) (ns : List ℕ) → All (λ n. n < count) ns → length s.modules ≡ count
-    → map moving_of (fold (with_module_moved line) s ns).placement.moves ≡ map moving_of s.placement.moves ++ map (moving line) ns
-moves-all line count s [] within is = sym (append-nil (map moving_of s.placement.moves))
+    → map move_request (fold (with_module_moved line) s ns).placement.moves ≡ map move_request s.placement.moves ++ map (moving line) ns
+moves-all line count s [] within is = sym (append-nil (map move_request s.placement.moves))
 moves-all line count s (n ∷ ns) within is =
     let t = with_module_moved line s n in
     let first = All-head (λ k. k < count) n ns within in
     let one = moves-one line s n (slice_get s.modules n) refl (omega (arith, first, is)) in
     moves-all line count t ns (All-tail (λ k. k < count) n ns within) (one.size ∙ is)
     ∙ ap (λ xs. xs ++ map (moving line) ns) one.more
-    ∙ append_assoc (map moving_of s.placement.moves) (moving line n ∷ []) (map (moving line) ns)
+    ∙ append_assoc (map move_request s.placement.moves) (moving line n ∷ []) (map (moving line) ns)
 
 -- a call moves nothing
 called-on : (fuel : ℕ) (s : RunState) (line worker n export : ℕ) (args : List ℕ) (m : ModuleState) (o : Option Place)
-    → (option_map_or (λ stack. let call : Call = record { line = line; worker = worker; export = export; under = m.part; stack = stack } in called_run s n m fuel call args) o s).placement ≡ s.placement
+    → (option_map_or (λ stack. let call : Call = record { line = line; worker = worker; export = export; under = m.movable; stack = stack } in called_run s n m fuel call args) o s).placement ≡ s.placement
 called-on fuel s line worker n export args m None = refl
 called-on fuel s line worker n export args m (Some stack) = refl
 
 called-of : (fuel : ℕ) (s : RunState) (line worker n export : ℕ) (args : List ℕ) (o : Option ModuleState)
-    → (option_map_or (λ m. option_map_or (λ stack. let call : Call = record { line = line; worker = worker; export = export; under = m.part; stack = stack } in called_run s n m fuel call args) (slice_get s.stacks worker) s) o s).placement ≡ s.placement
+    → (option_map_or (λ m. option_map_or (λ stack. let call : Call = record { line = line; worker = worker; export = export; under = m.movable; stack = stack } in called_run s n m fuel call args) (slice_get s.stacks worker) s) o s).placement ≡ s.placement
 called-of fuel s line worker n export args None = refl
 called-of fuel s line worker n export args (Some m) = called-on fuel s line worker n export args m (slice_get s.stacks worker)
 
 -- a worker that is there has a fresh stack
 given-one : (line : ℕ) (s : RunState) (worker : ℕ) (o : Option Place) → slice_get s.stacks worker ≡ o → worker < length s.stacks
-    → map moving_of (option_map_or (λ stack. given_run s line worker stack) o s).placement.moves ≡ map moving_of s.placement.moves ++ record { line = line; kind = kinds.Stack; who = worker } ∷ []
+    → map move_request (option_map_or (λ stack. given_run s line worker stack) o s).placement.moves ≡ map move_request s.placement.moves ++ record { line = line; kind = kinds.Stack; who = worker } ∷ []
 unfolding after_move
 given-one line s worker None e within = let found = there s.stacks worker within in absurd (none-some found.0 (sym e ∙ found.1))
-given-one line s worker (Some stack) e within = map_push moving_of s.placement.moves (record { line = line; kind = kinds.Stack; who = worker; end = move_end s.placement.drawn kinds.Stack stack.pages })
+given-one line s worker (Some stack) e within = map_push move_request s.placement.moves (record { line = line; kind = kinds.Stack; who = worker; end = move_end s.placement.drawn kinds.Stack stack.pages })
 
 moves-step : (fuel : ℕ) (s : RunState) (images : List Image) (workers : ℕ) (step : ReadyStep) → IsRunnable images workers step → length s.modules ≡ length images → length s.stacks ≡ workers
-    → map moving_of (after_step fuel s step).placement.moves ≡ map moving_of s.placement.moves ++ moved_by step
+    → map move_request (after_step fuel s step).placement.moves ≡ map move_request s.placement.moves ++ move_requests step
 unfolding after_step
 moves-step fuel s images workers (steps.Call line worker n export args) can modules stacks =
-    ap (λ (p : Placement). map moving_of p.moves) (called-of fuel s line worker n export args (slice_get s.modules n)) ∙ sym (append-nil (map moving_of s.placement.moves))
+    ap (λ (p : Placement). map move_request p.moves) (called-of fuel s line worker n export args (slice_get s.modules n)) ∙ sym (append-nil (map move_request s.placement.moves))
 moves-step fuel s images workers (steps.Move line ns) can modules stacks = moves-all line (length images) s ns can modules
 moves-step fuel s images workers (steps.Stack line worker) can modules stacks = given-one line s worker (slice_get s.stacks worker) refl (omega (arith, can, stacks))
 
@@ -285,32 +286,23 @@ size-images : (s : RunState) → length (images_of s) ≡ length s.modules
 size-images s = length-map s.modules (λ (m : ModuleState). m.image)
 
 moves-run : (fuel : ℕ) (s : RunState) (images : List Image) (workers : ℕ) (all : List ReadyStep) → All (IsRunnable images workers) all → length s.modules ≡ length images → length s.stacks ≡ workers
-    → map moving_of (line_run fuel s all).placement.moves ≡ map moving_of s.placement.moves ++ flat_map moved_by all
-moves-run fuel s images workers [] can modules stacks = sym (append-nil (map moving_of s.placement.moves))
+    → map move_request (line_run fuel s all).placement.moves ≡ map move_request s.placement.moves ++ flat_map move_requests all
+moves-run fuel s images workers [] can modules stacks = sym (append-nil (map move_request s.placement.moves))
 moves-run fuel s images workers (step ∷ rest) can modules stacks =
     let t = after_step fuel s step in
     let keeps = keeps-step fuel s step in
     let size : length t.modules ≡ length images = sym (size-images t) ∙ ap length keeps.images ∙ size-images s ∙ modules in
     moves-run fuel t images workers rest (All-tail (IsRunnable images workers) step rest can) size (keeps.stacks ∙ stacks)
-    ∙ ap (λ xs. xs ++ flat_map moved_by rest) (moves-step fuel s images workers step (All-head (IsRunnable images workers) step rest can) modules stacks)
-    ∙ append_assoc (map moving_of s.placement.moves) (moved_by step) (flat_map moved_by rest)
-
--- as many modules as images
-length-opened : (images : List Image) (ps : List Place) → length ps ≡ 2 * length images → length (opening_modules images ps) ≡ length images
-length-opened [] ps e = refl
-length-opened (i ∷ images) [] e = absurd (omega (arith, e))
-length-opened (i ∷ images) (f ∷ []) e = absurd (omega (arith, e))
-length-opened (i ∷ images) (f ∷ c ∷ rest) e = ap suc (length-opened images rest (omega (arith, e)))
+    ∙ ap (λ xs. xs ++ flat_map move_requests rest) (moves-step fuel s images workers step (All-head (IsRunnable images workers) step rest can) modules stacks)
+    ∙ append_assoc (map move_request s.placement.moves) (move_requests step) (flat_map move_requests rest)
 
 module _ (seed workers fuel : ℕ) (images : List Image) (steps : List ReadyStep) (loaded : AreLoaded seed workers images) (are : AreSteps images workers steps) where
-  pub moves-made : map moving_of (run_of_seed seed workers images fuel steps).placement.moves ≡ flat_map moved_by steps
+  pub moves-made : map move_request (run_of_seed seed workers images fuel steps).placement.moves ≡ flat_map move_requests steps
   unfolding opening_run
   moves-made =
-      let ps = (opening_drawn seed workers images).places in
-      let size = length-drawn seed workers images loaded in
-      moves-run fuel (opening_run workers images (opening_drawn seed workers images)) images workers steps are.runnable
-      (length-opened images (drop workers ps) (omega (arith, length-drop workers ps, size)))
-      (omega (arith, length-take workers ps, size))
+      let s = opening_run workers images (opening_drawn seed workers images) in
+      let there = opening-there seed workers images loaded in
+      moves-run fuel s images workers steps are.runnable (sym (size-images s) ∙ ap length there.images_are) there.stacks_are
 
   pub moves-rise : IsNonDecreasingBy (λ (m : Moved). m.line) (run_of_seed seed workers images fuel steps).placement.moves
   unfolding opening_run
@@ -328,25 +320,25 @@ module _ (seed workers fuel : ℕ) (images : List Image) (steps : List ReadyStep
         stacks = λ n p e. (opens.stacks n p e).pages;
       }
 
-  all-drawn : IsDrawn images (record { seed = seed; places = [] }) (opening_requests workers images) (workers + 2 * length images) (run_of_seed seed workers images fuel steps).placement
+  all-drawn : IsDrawn images (record { seed = seed; places = [] }) (map drawn_for (opening_requests workers images)) (workers + 2 * length images) (run_of_seed seed workers images fuel steps).placement
   unfolding opening_run opening_drawn
   all-drawn =
       let start : Drawn = record { seed = seed; places = [] } in
-      let requests = opening_requests workers images in
+      let requests = map drawn_for (opening_requests workers images) in
       let count = workers + 2 * length images in
       (run-keeps (λ s. IsDrawn images start requests count s.placement × HavePages images s) (λ line. Unit {0})
       (record {
         call = λ s n m f c args e h. (h.0, pages-called images s h.1 n m f c args e);
-        move = λ s line n m q e h. (drawn-move images start requests count s.placement line kinds.Code n m.part (h.1.parts n m e) h.0, pages-moved images s h.1 line n m e);
+        move = λ s line n m q e h. (drawn-move images start requests count s.placement line kinds.Code n m.movable (h.1.parts n m e) h.0, pages-moved images s h.1 line n m e);
         stack = λ s line worker stack q e h. (drawn-move images start requests count s.placement line kinds.Stack worker stack (h.1.stacks worker stack e) h.0, pages-given images s h.1 line worker stack e);
       })
       fuel (opening_run workers images (opening_drawn seed workers images)) steps (λ k d within. tt)
       (record { drawn = ap (drawn_from start) (sym (append-nil requests)); ends = tt; counted = sym (length-drawn seed workers images loaded) }, opening-pages)).0
 
-  pub ends-are : AreMoveEnds (workers + 2 * length images) (run_of_seed seed workers images fuel steps).placement.moves
-  ends-are = all-drawn.ends
+  pub ends-are : AreMoveEnds (length (opening_requests workers images)) (run_of_seed seed workers images fuel steps).placement.moves
+  ends-are = subst (λ n. AreMoveEnds n (run_of_seed seed workers images fuel steps).placement.moves) (sym (length-requests workers images)) all-drawn.ends
 
-  pub places-are : (run_of_seed seed workers images fuel steps).placement.drawn.places ≡ places_of seed (opening_requests workers images ++ flat_map (request_of images) (run_of_seed seed workers images fuel steps).placement.moves)
+  pub places-are : (run_of_seed seed workers images fuel steps).placement.drawn.places ≡ places_of seed (map drawn_for (opening_requests workers images) ++ flat_map (draw_of images) (run_of_seed seed workers images fuel steps).placement.moves)
   unfolding places_of
   places-are = ap (λ (d : Drawn). d.places) all-drawn.drawn
 
@@ -362,14 +354,14 @@ module _ (seed workers fuel : ℕ) (images : List Image) (steps : List ReadyStep
       })
       fuel first steps (λ k d within. tt)
       (record {
-        parts = λ n a b e f. let same : Some a ≡ Some b = sym e ∙ f in let is : a ≡ b = cc in sym (ap (λ (m : ModuleState). m.part) is);
+        parts = λ n a b e f. let same : Some a ≡ Some b = sym e ∙ f in let is : a ≡ b = cc in sym (ap (λ (m : ModuleState). m.movable) is);
         stacks = λ n a b e f. let same : Some a ≡ Some b = sym e ∙ f in let is : a ≡ b = cc in sym is;
       })
 
   pub parts-are : (number : ℕ) (first now : ModuleState)
       → slice_get (opening_run workers images (opening_drawn seed workers images)).modules number ≡ Some first
       → slice_get (run_of_seed seed workers images fuel steps).modules number ≡ Some now
-      → now.part ≡ last_place kinds.Code number first.part (run_of_seed seed workers images fuel steps).placement.moves
+      → now.movable ≡ last_place kinds.Code number first.movable (run_of_seed seed workers images fuel steps).placement.moves
   parts-are = all-last.parts
 
   pub stacks-are : (worker : ℕ) (first now : Place)

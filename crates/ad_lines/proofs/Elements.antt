@@ -1,8 +1,8 @@
 -- What is read of a part of a list, and what holds of each element that is read.
-use Rattle.std.proofs.Common.{◌≡◌, ℕ, zero, suc, ◌+◌, ◌<◌, ◌≤◌, List, [], ◌∷◌, ◌++◌, length, take, drop, get_or, slice_get, Some, refl, sym, ap, subst, ◌∙◌, arith}
-use Rattle.std.specs.List.{All, AllPairs, Contains, flat_map}
+use Rattle.std.proofs.Common.{◌≡◌, ℕ, zero, suc, ◌<◌, ◌≤◌, List, [], ◌∷◌, ◌++◌, length, get_or, slice_get, Some, refl, subst, arith}
+use Rattle.std.specs.List.{All, AllPairs, Contains}
 use Rattle.std.specs.List.Sorted.{IsNonDecreasingBy}
-use Rattle.std.proofs.lemmas.List.Elements.{All-append, All-cons, All-head, All-nil, All-tail}
+use Rattle.std.proofs.lemmas.List.Elements.{All-cons, All-head, All-nil, All-tail}
 use Rattle.std.proofs.lemmas.Option.{slice_get_within}
 use Rattle.ad_lines.proofs.Kept.{read}
 
@@ -33,32 +33,10 @@ pairs-head R x xs h k d within = h 0 (suc k) d (omega arith) (omega arith)
 pub pairs-tail : {A : Type 0} (R : A → A → Type 0) (x : A) (xs : List A) → AllPairs R (x ∷ xs) → AllPairs R xs
 pairs-tail R x xs h i j d less within = h (suc i) (suc j) d (omega arith) (omega arith)
 
--- what is read behind the first n
-pub read-drop : {A : Type 0} (n : ℕ) (xs : List A) (k : ℕ) → slice_get (drop n xs) k ≡ slice_get xs (n + k)
-read-drop zero xs k = let at : 0 + k ≡ k = omega arith in ap (slice_get xs) (sym at)
-read-drop (suc n) [] k = refl
-read-drop (suc n) (x ∷ xs) k = let at : suc n + k ≡ suc (n + k) = omega arith in read-drop n xs k ∙ ap (slice_get (x ∷ xs)) (sym at)
-
--- what is read among the first n
-pub record IsReadOf {A : Type 0} (n : ℕ) (xs : List A) (k : ℕ) (x : A) : Type 0 where
-  pub within : k < n
-  pub there : slice_get xs k ≡ Some x
-
-pub read-take : {A : Type 0} (n : ℕ) (xs : List A) (k : ℕ) (x : A) → slice_get (take n xs) k ≡ Some x → IsReadOf n xs k x
-read-take zero xs k x e = absurd cc
-read-take (suc n) [] k x e = absurd cc
-read-take (suc n) (y ∷ ys) zero x e = record { within = omega arith; there = e }
-read-take (suc n) (y ∷ ys) (suc k) x e = let r = read-take n ys k x e in record { within = omega arith; there = r.there }
-
 -- the element behind the others
 pub read-seam : {A : Type 0} (xs : List A) (x : A) (ys : List A) → slice_get (xs ++ x ∷ ys) (length xs) ≡ Some x
 read-seam [] x ys = refl
 read-seam (y ∷ xs) x ys = read-seam xs x ys
-
--- what holds of all parts holds of all elements
-pub all-flat : {A B : Type 0} (P : B → Type 0) (f : A → List B) (xs : List A) → All (λ x. All P (f x)) xs → All P (flat_map f xs)
-all-flat P f [] h = All-nil P
-all-flat P f (x ∷ xs) h = All-append P (f x) (flat_map f xs) (All-head (λ y. All P (f y)) x xs h) (all-flat P f xs (All-tail (λ y. All P (f y)) x xs h))
 
 -- one more before the others, which is no higher
 pub rises-cons : {A : Type 0} (n : A → ℕ) (x : A) (xs : List A) → All (λ y. n x ≤ n y) xs → IsNonDecreasingBy n xs → IsNonDecreasingBy n (x ∷ xs)

@@ -43,17 +43,17 @@ keeps-trans s t u a b = record { images = b.images ∙ a.images; stacks = b.stac
 
 module _ (fuel : ℕ) (s : RunState) (line worker n export : ℕ) (args : List ℕ) where
   call-stack : (m : ModuleState) (o : Option Place) → slice_get s.modules n ≡ Some m
-      → Keeps s (option_map_or (λ stack. let call : Call = record { line = line; worker = worker; export = export; under = m.part; stack = stack } in record { modules = set s.modules n (record { image = m.image; part = m.part; book = after_call m.image fuel m.book call args }); stacks = s.stacks; placement = s.placement }) o s)
+      → Keeps s (option_map_or (λ stack. let call : Call = record { line = line; worker = worker; export = export; under = m.movable; stack = stack } in record { modules = set s.modules n (record { image = m.image; movable = m.movable; book = after_call m.image fuel m.book call args }); stacks = s.stacks; placement = s.placement }) o s)
   call-stack m None there = keeps-refl s
   call-stack m (Some stack) there = record { images = images-set s.modules n m _ there refl; stacks = refl }
 
   call-module : (o : Option ModuleState) → slice_get s.modules n ≡ o
-      → Keeps s (option_map_or (λ m. option_map_or (λ stack. let call : Call = record { line = line; worker = worker; export = export; under = m.part; stack = stack } in record { modules = set s.modules n (record { image = m.image; part = m.part; book = after_call m.image fuel m.book call args }); stacks = s.stacks; placement = s.placement }) (slice_get s.stacks worker) s) o s)
+      → Keeps s (option_map_or (λ m. option_map_or (λ stack. let call : Call = record { line = line; worker = worker; export = export; under = m.movable; stack = stack } in record { modules = set s.modules n (record { image = m.image; movable = m.movable; book = after_call m.image fuel m.book call args }); stacks = s.stacks; placement = s.placement }) (slice_get s.stacks worker) s) o s)
   call-module None there = keeps-refl s
   call-module (Some m) there = call-stack m (slice_get s.stacks worker) there
 
 moved-module : (line : ℕ) (s : RunState) (n : ℕ) (o : Option ModuleState) → slice_get s.modules n ≡ o
-    → Keeps s (option_map_or (λ m. record { modules = set s.modules n (record { image = m.image; part = place_after m.part (move_end s.placement.drawn kinds.Code m.part.pages); book = m.book }); stacks = s.stacks; placement = after_move s.placement line kinds.Code n m.part }) o s)
+    → Keeps s (option_map_or (λ m. record { modules = set s.modules n (record { image = m.image; movable = place_after m.movable (move_end s.placement.drawn kinds.Code m.movable.pages); book = m.book }); stacks = s.stacks; placement = after_move s.placement line kinds.Code n m.movable }) o s)
 moved-module line s n None there = keeps-refl s
 moved-module line s n (Some m) there = record { images = images-set s.modules n m _ there refl; stacks = refl }
 

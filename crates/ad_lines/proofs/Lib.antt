@@ -1,3 +1,4 @@
+pub mod Asked
 pub mod BookRuns
 pub mod Elements
 pub mod Drawing
@@ -20,3 +21,4 @@ pub mod SoundRuns
 pub mod Stale
 pub mod Steps
 pub mod RunLaws
+pub mod Zips

@@ -1,7 +1,6 @@
 -- What is read of a list once it has one more item, one other item, or its items mapped.
-use Rattle.std.proofs.Common.{◌≡◌, ◌≢◌, ◌⊎◌, ℕ, zero, suc, ◌+◌, ◌<◌, List, [], ◌∷◌, ◌++◌, length, map, take, drop, replicate, get_or, slice_get, Option, Some, inl, inr, refl, ap, subst, ◌∙◌, arith}
+use Rattle.std.proofs.Common.{◌≡◌, ◌≢◌, ◌⊎◌, ℕ, zero, suc, ◌+◌, List, [], ◌∷◌, ◌++◌, length, map, get_or, slice_get, Some, inl, inr, refl, ap, subst, ◌∙◌, arith}
 use Rattle.std.specs.List.{All, enumerate_from}
-use Rattle.std.specs.Option.{option_map_or}
 use Rattle.std.proofs.Math.ListN.{set}
 use Rattle.std.proofs.lemmas.Option.{get_or_from_slice_get, slice_get-get_or, slice_get_within}
 
@@ -66,43 +65,8 @@ read-map f [] k x e = absurd cc
 read-map f (z ∷ zs) zero x e = let same : z ≡ x = cc in ap (λ v. Some (f v)) same
 read-map f (z ∷ zs) (suc k) x e = read-map f zs k x e
 
--- an item of what is left, and of what is taken
-pub read-drop : {A : Type 0} (n : ℕ) (xs : List A) (k : ℕ) (x : A) → slice_get (drop n xs) k ≡ Some x → slice_get xs (n + k) ≡ Some x
-read-drop zero xs k x e = let at : zero + k ≡ k = omega arith in ap (slice_get xs) at ∙ e
-read-drop (suc n) [] k x e = absurd cc
-read-drop (suc n) (y ∷ ys) k x e = let at : suc n + k ≡ suc (n + k) = omega arith in ap (slice_get (y ∷ ys)) at ∙ read-drop n ys k x e
-
-pub read-take : {A : Type 0} (n : ℕ) (xs : List A) (k : ℕ) (x : A) → slice_get (take n xs) k ≡ Some x → (k < n) × (slice_get xs k ≡ Some x)
-read-take zero xs k x e = absurd cc
-read-take (suc n) [] k x e = absurd cc
-read-take (suc n) (y ∷ ys) zero x e = (omega arith, e)
-read-take (suc n) (y ∷ ys) (suc k) x e = let rest = read-take n ys k x e in (omega (arith, rest.0), rest.1)
-
--- an item of the list behind another, and of copies before another
-pub read-behind : {A : Type 0} (xs ys : List A) (k n : ℕ) → n ≡ length xs + k → slice_get (xs ++ ys) n ≡ slice_get ys k
-read-behind [] ys k n e = let at : n ≡ k = omega (arith, e) in ap (slice_get ys) at
-read-behind (x ∷ xs) ys k zero e = absurd (omega (arith, e))
-read-behind (x ∷ xs) ys k (suc n) e = read-behind xs ys k n (omega (arith, e))
-
-pub read-replicate : {A : Type 0} (n : ℕ) (x : A) (ys : List A) (k : ℕ) → k < n → slice_get (replicate n x ++ ys) k ≡ Some x
-read-replicate zero x ys k low = absurd (omega arith)
-read-replicate (suc n) x ys zero low = refl
-read-replicate (suc n) x ys (suc k) low = read-replicate n x ys k (omega (arith, low))
-
 -- an item of a numbered list
 pub read-enumerate : {A : Type 0} (n : ℕ) (xs : List A) (k : ℕ) (x : A) → slice_get xs k ≡ Some x → slice_get (enumerate_from n xs) k ≡ Some (n + k, x)
 read-enumerate n [] k x e = absurd cc
 read-enumerate n (y ∷ ys) zero x e = let same : y ≡ x = cc in let at : n ≡ n + 0 = omega arith in λ j. Some (at j, same j)
 read-enumerate n (y ∷ ys) (suc k) x e = let at : n + 1 + k ≡ n + suc k = omega arith in read-enumerate (n + 1) ys k x e ∙ ap (λ i. Some (i, x)) at
-
-pub enumerate-read : {A : Type 0} (n : ℕ) (xs : List A) (k : ℕ) (y : ℕ × A) → slice_get (enumerate_from n xs) k ≡ Some y → y.0 ≡ n + k
-enumerate-read n [] k y e = absurd cc
-enumerate-read {A = A} n (x ∷ xs) zero y e = let same : n ≡ y.0 = ap (λ (o : Option (ℕ × A)). option_map_or (λ (z : ℕ × A). z.0) o 0) e in omega (arith, same)
-enumerate-read n (x ∷ xs) (suc k) y e = let rest = enumerate-read (n + 1) xs k y e in omega (arith, rest)
-
--- what holds of all of two lists
-pub all-front : {A : Type 0} (P : A → Type 0) (xs ys : List A) → All P (xs ++ ys) → All P xs
-all-front P xs ys h = all-each P xs (λ k x e. each-all P (xs ++ ys) h k x (read-front xs ys k x e))
-
-pub all-back : {A : Type 0} (P : A → Type 0) (xs ys : List A) → All P (xs ++ ys) → All P ys
-all-back P xs ys h = all-each P ys (λ k x e. each-all P (xs ++ ys) h (length xs + k) x (read-behind xs ys k (length xs + k) refl ∙ e))

@@ -15,7 +15,7 @@ use Rattle.ad_base.specs.declared.ledger.Moved.{Moved}
 use Rattle.ad_base.specs.declared.ledger.Row.{Row}
 use Rattle.ad_base.specs.declared.place.Place.{Place}
 use Rattle.ad_base.specs.Ledger.{IsLedger, IsUnmappedOnce, Mapping, made_mapping, made_mappings, made_place}
-use Rattle.ad_base.specs.Memory.{risen}
+use Rattle.ad_base.specs.Count.{risen}
 use Rattle.ad_base.specs.Place.{IsPlace}
 use Rattle.ad_place.specs.Choice.{next_place}
 use Rattle.ad_place.specs.ChoiceLaws.{IsPlaceFor}
@@ -27,11 +27,11 @@ use Rattle.ad_lines.proofs.Rows.{NumberedFrom, numbered-map, numbered-push, reti
 
 -- what holds of the places of a run after each move
 pub record IsSoundPlacement (opening : List Mapping) (p : Placement) : Type 0 where
-  pub ledger : IsLedger (opening ++ made_mappings p.moves) p.mappings
+  pub ledger : IsLedger (opening ++ made_mappings p.moves) p.rows
   pub later : IsMadeLater (opening ++ made_mappings p.moves)
-  pub numbers : NumberedFrom 1 p.mappings
-  pub once : Each IsUnmappedOnce p.mappings
-  pub places : map (λ (r : Row). r.place) p.mappings ≡ p.drawn.places
+  pub numbers : NumberedFrom 1 p.rows
+  pub once : Each IsUnmappedOnce p.rows
+  pub places : map (λ (r : Row). r.place) p.rows ≡ p.drawn.places
   pub few : length p.drawn.places ≤ MAPPINGS
   pub apart : AllPairs (λ (a b : Place). a.region ≢ b.region) p.drawn.places
   pub are : Each IsPlace p.drawn.places
@@ -77,49 +77,49 @@ retired-once : (line : ℕ) (r : Row) → 1 ≤ line → r.unmaps ≡ 0 → IsUn
 retired-once line r some none = record { once = λ e. ap risen none; never = λ e. absurd (omega (arith, e)) }
 
 -- the place of a row
-pub place-at : (opening : List Mapping) (p : Placement) → IsSoundPlacement opening p → (k : ℕ) (r : Row) → slice_get p.mappings k ≡ Some r → slice_get p.drawn.places k ≡ Some r.place
-place-at opening p s k r e = subst (λ ps. slice_get ps k ≡ Some r.place) s.places (read-map (λ (x : Row). x.place) p.mappings k r e)
+pub place-at : (opening : List Mapping) (p : Placement) → IsSoundPlacement opening p → (k : ℕ) (r : Row) → slice_get p.rows k ≡ Some r → slice_get p.drawn.places k ≡ Some r.place
+place-at opening p s k r e = subst (λ ps. slice_get ps k ≡ Some r.place) s.places (read-map (λ (x : Row). x.place) p.rows k r e)
 
 -- what a move that came to this end makes of the places
 abbrev placed : Placement → ℕ → Kind → ℕ → Place → MoveEnd → Placement
 placed p line kind who old end = record {
   drawn = drawn_after p.drawn kind old.pages end;
   moves = p.moves ++ record { line = line; kind = kind; who = who; end = end } ∷ [];
-  mappings = option_map_or (λ new. replaced p.mappings line kind who old new) (made_place end) p.mappings;
+  rows = option_map_or (λ new. replaced p.rows line kind who old new) (made_place end) p.rows;
 }
 
 -- what a move of a thing from a place to another keeps
 pub record IsMoved (opening : List Mapping) (p : Placement) (kind : Kind) (who : ℕ) (old : Place) (q : Placement) (new : Place) : Type 0 where
   pub sound : IsSoundPlacement opening q
-  pub here : IsCurrent q.mappings kind who new
-  pub others : (k : Kind) (w : ℕ) (x : Place) → (k ≡ kind → w ≡ who → ⊥) → IsCurrent p.mappings k w x → IsCurrent q.mappings k w x
-  pub grows : Grows p.mappings q.mappings
+  pub here : IsCurrent q.rows kind who new
+  pub others : (k : Kind) (w : ℕ) (x : Place) → (k ≡ kind → w ≡ who → ⊥) → IsCurrent p.rows k w x → IsCurrent q.rows k w x
+  pub grows : Grows p.rows q.rows
   pub pages : new.pages ≡ old.pages
 
-module _ (opening : List Mapping) (p : Placement) (line : ℕ) (kind : Kind) (who : ℕ) (old : Place) (s : IsSoundPlacement opening p) (c : IsCurrent p.mappings kind who old) (some : 1 ≤ line) where
+module _ (opening : List Mapping) (p : Placement) (line : ℕ) (kind : Kind) (who : ℕ) (old : Place) (s : IsSoundPlacement opening p) (c : IsCurrent p.rows kind who old) (some : 1 ≤ line) where
   old-is : IsPlace old
   old-is = subst IsPlace c.of_place (s.are c.at c.row.place (place-at opening p s c.at c.row c.found))
 
   old-number : old.mapping ≡ c.at + 1
-  old-number = sym (ap (λ (x : Place). x.mapping) c.of_place) ∙ sym (number-at (opening ++ made_mappings p.moves) p.mappings s.ledger c.at c.row c.found) ∙ s.numbers c.at c.row c.found
+  old-number = sym (ap (λ (x : Place). x.mapping) c.of_place) ∙ sym (number-at (opening ++ made_mappings p.moves) p.rows s.ledger c.at c.row c.found) ∙ s.numbers c.at c.row c.found
 
   -- a row of the old place's number is the current one
-  only : (k : ℕ) (r : Row) → slice_get p.mappings k ≡ Some r → r.mapping ≡ old.mapping → r ≡ c.row
+  only : (k : ℕ) (r : Row) → slice_get p.rows k ≡ Some r → r.mapping ≡ old.mapping → r ≡ c.row
   only k r e is =
       let at : k ≡ c.at = omega (arith, is, old-number, s.numbers k r e) in
-      let same : Some r ≡ Some c.row = sym e ∙ ap (slice_get p.mappings) at ∙ c.found in
+      let same : Some r ≡ Some c.row = sym e ∙ ap (slice_get p.rows) at ∙ c.found in
       cc
 
-  length-rows : length p.mappings ≡ length p.drawn.places
-  length-rows = sym (length-map p.mappings (λ (r : Row). r.place)) ∙ ap length s.places
+  length-rows : length p.rows ≡ length p.drawn.places
+  length-rows = sym (length-map p.rows (λ (r : Row). r.place)) ∙ ap length s.places
 
   module _ (few : length p.drawn.places < MAPPINGS) where
     new-is : IsPlaceFor kind old.pages (length p.drawn.places + 1) (next_place p.drawn kind old.pages)
     new-is = let o = old-is in next_place_is p.drawn kind old.pages few o.some_page (omega (arith, o.page_before, o.page_behind))
 
-    made-once : Each IsUnmappedOnce (map (retired old.mapping line) p.mappings)
+    made-once : Each IsUnmappedOnce (map (retired old.mapping line) p.rows)
     made-once k y e =
-        let x = map-read (retired old.mapping line) p.mappings k y e in
+        let x = map-read (retired old.mapping line) p.rows k y e in
         subst IsUnmappedOnce x.2 (elim (eqb_tells x.0.mapping old.mapping) [
           | inl is ↦
               let row = only k x.0 x.1 is.1 in
@@ -131,23 +131,23 @@ module _ (opening : List Mapping) (p : Placement) (line : ℕ) (kind : Kind) (wh
     made-sound : IsSoundPlacement opening (placed p line kind who old (Made (next_place p.drawn kind old.pages)))
     made-sound =
         let new = next_place p.drawn kind old.pages in
-        let rows = map (retired old.mapping line) p.mappings in
+        let rows = map (retired old.mapping line) p.rows in
         let m : Moved = record { line = line; kind = kind; who = who; end = Made new } in
         let n : Mapping = record { kind = kind; who = who; place = new; line = line } in
         let all = opening ++ made_mappings p.moves in
         let more : all ++ n ∷ [] ≡ opening ++ made_mappings (p.moves ++ m ∷ []) = flat_map_more made_mapping opening p.moves m in
         record {
-          ledger = subst (λ ms. IsLedger ms (rows ++ new_row kind who new ∷ [])) more (ledger-push all p.mappings n old.mapping 1 s.numbers s.ledger s.later c.at c.row c.found c.of_kind c.of_who c.no_line old-number);
+          ledger = subst (λ ms. IsLedger ms (rows ++ new_row kind who new ∷ [])) more (ledger-push all p.rows n old.mapping 1 s.numbers s.ledger s.later c.at c.row c.found c.of_kind c.of_who c.no_line old-number);
           later = subst IsMadeLater more (later-push all n s.later some);
-          numbers = numbered-push 1 rows (new_row kind who new) (numbered-map (retired old.mapping line) (retired-number old.mapping line) 1 p.mappings s.numbers) (omega (arith, new-is.mapping, length-rows, length-map p.mappings (retired old.mapping line)));
+          numbers = numbered-push 1 rows (new_row kind who new) (numbered-map (retired old.mapping line) (retired-number old.mapping line) 1 p.rows s.numbers) (omega (arith, new-is.mapping, length-rows, length-map p.rows (retired old.mapping line)));
           once = each-push IsUnmappedOnce rows (new_row kind who new) made-once (record { once = λ e. absurd (e refl); never = λ e. refl });
-          places = map_push (λ (r : Row). r.place) rows (new_row kind who new) ∙ ap (λ ps. ps ++ new ∷ []) (retired-places old.mapping line p.mappings ∙ s.places);
+          places = map_push (λ (r : Row). r.place) rows (new_row kind who new) ∙ ap (λ ps. ps ++ new ∷ []) (retired-places old.mapping line p.rows ∙ s.places);
           few = omega (arith, length_push p.drawn.places new);
           apart = all_pairs_push (λ (a b : Place). a.region ≢ b.region) p.drawn.places new s.apart (next_place_fresh p.drawn kind old.pages few);
           are = each-push IsPlace p.drawn.places new s.are new-is.place;
         }
 
-    made-others : (k : Kind) (w : ℕ) (x : Place) → (k ≡ kind → w ≡ who → ⊥) → IsCurrent p.mappings k w x → IsCurrent (replaced p.mappings line kind who old (next_place p.drawn kind old.pages)) k w x
+    made-others : (k : Kind) (w : ℕ) (x : Place) → (k ≡ kind → w ≡ who → ⊥) → IsCurrent p.rows k w x → IsCurrent (replaced p.rows line kind who old (next_place p.drawn kind old.pages)) k w x
     made-others k w x apart h =
         let different : h.row.mapping ≡ old.mapping → ⊥ = λ e.
         let row = only h.at h.row h.found e in
@@ -156,7 +156,7 @@ module _ (opening : List Mapping) (p : Placement) (line : ℕ) (kind : Kind) (wh
         record {
           at = h.at;
           row = h.row;
-          found = read-front (map (retired old.mapping line) p.mappings) _ h.at h.row (read-map (retired old.mapping line) p.mappings h.at h.row h.found ∙ ap Some stays);
+          found = read-front (map (retired old.mapping line) p.rows) _ h.at h.row (read-map (retired old.mapping line) p.rows h.at h.row h.found ∙ ap Some stays);
           of_kind = h.of_kind;
           of_who = h.of_who;
           of_place = h.of_place;
@@ -166,12 +166,12 @@ module _ (opening : List Mapping) (p : Placement) (line : ℕ) (kind : Kind) (wh
     made-moved : IsMoved opening p kind who old (placed p line kind who old (Made (next_place p.drawn kind old.pages))) (next_place p.drawn kind old.pages)
     made-moved =
         let new = next_place p.drawn kind old.pages in
-        let rows = map (retired old.mapping line) p.mappings in
+        let rows = map (retired old.mapping line) p.rows in
         record {
           sound = made-sound;
           here = record { at = length rows; row = new_row kind who new; found = read-last rows (new_row kind who new); of_kind = refl; of_who = refl; of_place = refl; no_line = refl };
           others = made-others;
-          grows = record { each = λ k r e. (retired old.mapping line r, read-front rows (new_row kind who new ∷ []) k (retired old.mapping line r) (read-map (retired old.mapping line) p.mappings k r e), retired-place old.mapping line r, retired-unmaps old.mapping line r) };
+          grows = record { each = λ k r e. (retired old.mapping line r, read-front rows (new_row kind who new ∷ []) k (retired old.mapping line r) (read-map (retired old.mapping line) p.rows k r e), retired-place old.mapping line r, retired-unmaps old.mapping line r) };
           pages = new-is.pages;
         }
 
@@ -182,7 +182,7 @@ module _ (opening : List Mapping) (p : Placement) (line : ℕ) (kind : Kind) (wh
       let more : all ≡ opening ++ made_mappings (p.moves ++ m ∷ []) = sym (append-nil all) ∙ flat_map_more made_mapping opening p.moves m in
       record {
         sound = record {
-          ledger = subst (λ ms. IsLedger ms p.mappings) more s.ledger;
+          ledger = subst (λ ms. IsLedger ms p.rows) more s.ledger;
           later = subst IsMadeLater more s.later;
           numbers = s.numbers;
           once = s.once;
@@ -193,7 +193,7 @@ module _ (opening : List Mapping) (p : Placement) (line : ℕ) (kind : Kind) (wh
         };
         here = c;
         others = λ k w x apart h. h;
-        grows = grows-refl p.mappings;
+        grows = grows-refl p.rows;
         pages = refl;
       }
 

@@ -16,7 +16,7 @@ use Rattle.ad_base.specs.Place.{IsModulePlace, IsPlace}
 use Rattle.ad_call.specs.Call.{after_call}
 use Rattle.ad_place.specs.Choice.{Drawn, next_place}
 use Rattle.ad_place.proofs.Places.{next_place_fresh, next_place_is}
-use Rattle.ad_relate.specs.ClearHistory.{AreOffsets, ArePlacedApart, places_of}
+use Rattle.ad_relate.specs.ClearHistory.{AreOffsets, ArePlacedApart, entry_places}
 use Rattle.ad_relate.specs.Stands.{IsApart}
 use Rattle.ad_lines.specs.declared.ready.ReadyStep.{ReadyStep}
 use Rattle.ad_lines.specs.declared.ready.ReadyStep.TheVariants.{Call, Move, Stack}
@@ -42,7 +42,7 @@ pub record IsStackPlace (p : Place) : Type 0 where
 pub record IsPlacedModule (drawn : List Place) (m : ModuleState) : Type 0 where
   pub whole : IsWhole m.image
   pub offsets : AreOffsets m.image
-  pub part : IsPartOf m.image m.part
+  pub movable : IsPartOf m.image m.movable
   pub fixed_drawn : Contains drawn m.image.fixed
   pub entries : ArePlacedApart m.image m.book.entries
 
@@ -61,7 +61,7 @@ unfolding after_move
 still-placed s line kind who old m h = record {
   whole = h.whole;
   offsets = h.offsets;
-  part = h.part;
+  movable = h.movable;
   fixed_drawn = drawn-more s.placement.drawn kind old.pages (nat_lt (length s.placement.drawn.places) MAPPINGS) m.image.fixed h.fixed_drawn;
   entries = h.entries;
 }
@@ -89,8 +89,8 @@ stack-by d old true is h =
 stack-by d old false is h = h
 
 -- a part and a stack are apart
-apart-now : (i : Image) (part stack : Place) → IsWhole i → IsPartOf i part → IsStackPlace stack → IsApart i (record { movable = part; stack = stack })
-apart-now i part stack whole p q = record {
+apart-now : (i : Image) (movable stack : Place) → IsWhole i → IsPartOf i movable → IsStackPlace stack → IsApart i (record { movable = movable; stack = stack })
+apart-now i movable stack whole p q = record {
   whole = whole;
   movable = p.for_modules;
   movable_size = p.size;
@@ -114,9 +114,9 @@ placed-call fuel s line worker n export args h =
           (record {
             whole = p.whole;
             offsets = p.offsets;
-            part = p.part;
+            movable = p.movable;
             fixed_drawn = p.fixed_drawn;
-            entries = All-push (λ (x : Entry). IsApart m.image (places_of x)) m.book.entries _ p.entries (apart-now m.image m.part stack p.whole p.part q);
+            entries = All-push (λ (x : Entry). IsApart m.image (entry_places x)) m.book.entries _ p.entries (apart-now m.image m.movable stack p.whole p.movable q);
           }) h.modules_are;
       stacks_are = h.stacks_are;
     })
@@ -127,15 +127,15 @@ placed-move line s n h =
     (λ m e.
     let drawn = s.placement.drawn.places in
     let p = all-read (IsPlacedModule drawn) s.modules n m h.modules_are e in
-    let after = after_move s.placement line kinds.Code n m.part in
-    let still = still-placed s line kinds.Code n m.part in
+    let after = after_move s.placement line kinds.Code n m.movable in
+    let still = still-placed s line kinds.Code n m.movable in
     let q = still m p in
     record {
       modules_are = All-set (IsPlacedModule after.drawn.places) s.modules n _
           (record {
             whole = q.whole;
             offsets = q.offsets;
-            part = part-by s.placement.drawn m.image m.part (nat_lt (length drawn) MAPPINGS) refl p.whole p.fixed_drawn p.part;
+            movable = part-by s.placement.drawn m.image m.movable (nat_lt (length drawn) MAPPINGS) refl p.whole p.fixed_drawn p.movable;
             fixed_drawn = q.fixed_drawn;
             entries = q.entries;
           }) (All-weaker (IsPlacedModule drawn) (IsPlacedModule after.drawn.places) still s.modules h.modules_are);

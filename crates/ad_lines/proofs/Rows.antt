@@ -7,9 +7,9 @@ use Rattle.std.proofs.lemmas.List.{length-map, length_push}
 use Rattle.ad_base.specs.declared.ledger.Kind.{Kind}
 use Rattle.ad_base.specs.declared.ledger.Row.{Row}
 use Rattle.ad_base.specs.declared.place.Place.{Place}
-use Rattle.ad_base.specs.Memory.{risen}
+use Rattle.ad_base.specs.Count.{risen}
 use Rattle.ad_lines.specs.LineRun.{new_row, replaced, retired}
-use Rattle.ad_lines.specs.Room.{AreNumbered, IsMappingList}
+use Rattle.ad_lines.specs.Private.Places.{AreNumbered, IsMappingList}
 
 -- rows are numbered from a number on
 abbrev pub NumberedFrom : ℕ → List Row → Type 0

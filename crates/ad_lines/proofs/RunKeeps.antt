@@ -16,14 +16,14 @@ use Rattle.ad_lines.proofs.Kept.{fold-keeps}
 
 -- the run once a module that is there was called
 abbrev pub called_run : RunState → ℕ → ModuleState → ℕ → Call → List ℕ → RunState
-called_run s n m fuel c args = record { modules = set s.modules n (record { image = m.image; part = m.part; book = after_call m.image fuel m.book c args }); stacks = s.stacks; placement = s.placement }
+called_run s n m fuel c args = record { modules = set s.modules n (record { image = m.image; movable = m.movable; book = after_call m.image fuel m.book c args }); stacks = s.stacks; placement = s.placement }
 
 -- the run once a module that is there was moved
 abbrev pub moved_run : RunState → ℕ → ℕ → ModuleState → RunState
 moved_run s line n m = record {
-  modules = set s.modules n (record { image = m.image; part = place_after m.part (move_end s.placement.drawn kinds.Code m.part.pages); book = m.book });
+  modules = set s.modules n (record { image = m.image; movable = place_after m.movable (move_end s.placement.drawn kinds.Code m.movable.pages); book = m.book });
   stacks = s.stacks;
-  placement = after_move s.placement line kinds.Code n m.part;
+  placement = after_move s.placement line kinds.Code n m.movable;
 }
 
 -- the run once a worker whose stack this was has a fresh one
@@ -42,14 +42,14 @@ pub record IsKept (P : RunState → Type 0) (Q : ℕ → Type 0) : Type 0 where
 
 module _ (P : RunState → Type 0) (Q : ℕ → Type 0) (kept : IsKept P Q) where
   call-on : (fuel : ℕ) (s : RunState) (line worker n export : ℕ) (args : List ℕ) (m : ModuleState) (o : Option Place) → P s → slice_get s.modules n ≡ Some m
-      → P (option_map_or (λ stack. let call : Call = record { line = line; worker = worker; export = export; under = m.part; stack = stack } in called_run s n m fuel call args) o s)
+      → P (option_map_or (λ stack. let call : Call = record { line = line; worker = worker; export = export; under = m.movable; stack = stack } in called_run s n m fuel call args) o s)
   call-on fuel s line worker n export args m None p there = p
   call-on fuel s line worker n export args m (Some stack) p there =
-      let call : Call = record { line = line; worker = worker; export = export; under = m.part; stack = stack } in
+      let call : Call = record { line = line; worker = worker; export = export; under = m.movable; stack = stack } in
       kept.call s n m fuel call args there p
 
   call-of : (fuel : ℕ) (s : RunState) (line worker n export : ℕ) (args : List ℕ) (o : Option ModuleState) → P s → slice_get s.modules n ≡ o
-      → P (option_map_or (λ m. option_map_or (λ stack. let call : Call = record { line = line; worker = worker; export = export; under = m.part; stack = stack } in called_run s n m fuel call args) (slice_get s.stacks worker) s) o s)
+      → P (option_map_or (λ m. option_map_or (λ stack. let call : Call = record { line = line; worker = worker; export = export; under = m.movable; stack = stack } in called_run s n m fuel call args) (slice_get s.stacks worker) s) o s)
   call-of fuel s line worker n export args None p there = p
   call-of fuel s line worker n export args (Some m) p there = call-on fuel s line worker n export args m (slice_get s.stacks worker) p there
 

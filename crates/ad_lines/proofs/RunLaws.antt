@@ -10,10 +10,10 @@ use Rattle.ad_relate.specs.ClearHistory.{RepliesAsReplayed}
 use Rattle.ad_relate.proofs.ClearHistory.{replies}
 use Rattle.ad_lines.specs.declared.ready.ReadyStep.{ReadyStep}
 use Rattle.ad_lines.specs.LineRun.{ModuleState}
-use Rattle.ad_lines.specs.LineLaws.{AreSteps, asked_of_module, asking_of, run_of_seed}
+use Rattle.ad_lines.specs.LineLaws.{AreSteps, calls_of_module, run_of_seed, step_of}
 use Rattle.ad_lines.specs.Opening.{AreLoaded, opening_drawn, opening_mappings, opening_run}
 use Rattle.ad_lines.specs.Room.{images_of}
-use Rattle.ad_lines.proofs.BookRuns.{HasLawfulBook, asked-rise, entries-rise, entries-of-run, lawful-run}
+use Rattle.ad_lines.proofs.BookRuns.{HasLawfulBook, steps-rise, entries-rise, entries-of-run, lawful-run}
 use Rattle.ad_lines.proofs.Elements.{all-read, all-reads}
 use Rattle.ad_lines.proofs.Kept.{keeps-run}
 use Rattle.ad_lines.proofs.Opened.{opening-empty, opening-lawful, opening-there}
@@ -29,14 +29,14 @@ module _ (seed workers fuel : ℕ) (images : List Image) (steps : List ReadyStep
   pub books-lawful : All (λ (m : ModuleState). IsLawful m.image fuel m.book) (run_of_seed seed workers images fuel steps).modules
   books-lawful = (lawful-run images workers fuel (opening_run workers images (opening_drawn seed workers images)) steps are.runnable (opening-lawful seed workers images loaded fuel)).books
 
-  pub calls-asked : (number : ℕ) (m : ModuleState) → slice_get (run_of_seed seed workers images fuel steps).modules number ≡ Some m → map asking_of m.book.entries ≡ asked_of_module number steps
-  calls-asked number m there = entries-of-run images workers fuel (opening_run workers images (opening_drawn seed workers images)) steps number m are.runnable (opening-there seed workers images loaded) (opening-empty seed workers images loaded number) there
+  pub calls-made : (number : ℕ) (m : ModuleState) → slice_get (run_of_seed seed workers images fuel steps).modules number ≡ Some m → map (step_of number) m.book.entries ≡ calls_of_module number steps
+  calls-made number m there = entries-of-run images workers fuel (opening_run workers images (opening_drawn seed workers images)) steps number m are.runnable (opening-there seed workers images loaded) (opening-empty seed workers images loaded number) there
 
   pub calls-rise : All (λ (m : ModuleState). IsNonDecreasingBy (λ (e : Entry). e.line) m.book.entries) (run_of_seed seed workers images fuel steps).modules
   calls-rise =
       let s = run_of_seed seed workers images fuel steps in
       all-reads (λ (m : ModuleState). IsNonDecreasingBy (λ (e : Entry). e.line) m.book.entries) s.modules
-      (λ number m there. entries-rise m.book.entries (asked_of_module number steps) (calls-asked number m there) (asked-rise number steps are.rising))
+      (λ number m there. entries-rise number m.book.entries (calls_of_module number steps) (calls-made number m there) (steps-rise number steps are.rising))
 
   pub clear-replies : All (λ (m : ModuleState). RepliesAsReplayed m.image fuel m.book.entries) (run_of_seed seed workers images fuel steps).modules
   clear-replies =
@@ -48,8 +48,8 @@ module _ (seed workers fuel : ℕ) (images : List Image) (steps : List ReadyStep
       let p = all-read (IsPlacedModule s.placement.drawn.places) s.modules k m placed e in
       replies m.image fuel m.book p.whole (all-read (HasLawfulBook fuel) s.modules k m books-lawful e) p.entries p.offsets)
 
-  pub rows-are-ledger : IsLedger (opening_mappings workers (opening_drawn seed workers images).places ++ made_mappings (run_of_seed seed workers images fuel steps).placement.moves) (run_of_seed seed workers images fuel steps).placement.mappings
+  pub rows-are-ledger : IsLedger (opening_mappings workers images (opening_drawn seed workers images).places ++ made_mappings (run_of_seed seed workers images fuel steps).placement.moves) (run_of_seed seed workers images fuel steps).placement.rows
   rows-are-ledger = (sound-run seed workers fuel images loaded steps are).sound.ledger
 
-  pub unmapped-once : All IsUnmappedOnce (run_of_seed seed workers images fuel steps).placement.mappings
-  unmapped-once = all-each IsUnmappedOnce (run_of_seed seed workers images fuel steps).placement.mappings (sound-run seed workers fuel images loaded steps are).sound.once
+  pub unmapped-once : All IsUnmappedOnce (run_of_seed seed workers images fuel steps).placement.rows
+  unmapped-once = all-each IsUnmappedOnce (run_of_seed seed workers images fuel steps).placement.rows (sound-run seed workers fuel images loaded steps are).sound.once

@@ -21,18 +21,20 @@ use Rattle.ad_core.specs.declared.bus.Fetched.TheVariants.{Fault, Gate}
 use Rattle.ad_core.specs.Image.{data_rights, fixed_pieces, laid_out, local_word, movable_pieces, segments_of, text_bytes}
 use Rattle.ad_core.specs.Segments.{Segment, Stack, fetched, holding, in_region_1, word_in}
 use Rattle.ad_core.proofs.Pages.{length-page_of_words}
+use Rattle.ad_core.proofs.Sizes.{holding-none, led, shapes}
 use Rattle.ad_lines.specs.declared.ready.ReadyStep.{ReadyStep}
 use Rattle.ad_lines.specs.LineRun.{ModuleState, Placement, after_step, line_run}
 use Rattle.ad_lines.specs.Opening.{AreLoaded, opening_drawn, opening_mappings, opening_run}
-use Rattle.ad_lines.specs.LineLaws.{AreSteps, InEachMemory, line_of, run_of_seed}
-use Rattle.ad_lines.proofs.ListReads.{Each, all-back, all-each, all-front, each-all}
+use Rattle.ad_lines.specs.LineLaws.{AreSteps, InEachMemory, IsFaultAtEachStep, line_of, run_of_seed}
+use Rattle.ad_lines.proofs.Elements.{all-back, all-front}
+use Rattle.ad_lines.proofs.ListReads.{Each, all-each, each-all}
 use Rattle.ad_lines.proofs.MoveRuns.{IsCurrent, IsSoundPlacement, grows-refl, place-at}
 use Rattle.ad_lines.proofs.OpenRuns.{run-opens}
-use Rattle.ad_lines.proofs.SoundRuns.{IsGrown, IsPlacedModule, IsPlacedStack, IsSoundRun, grown-run}
+use Rattle.ad_lines.proofs.SoundRuns.{IsGrown, IsPlacedModule, IsPlacedStack, IsSoundState, grown-run}
 
 -- the mappings before the first line
 abbrev opening_of : ℕ → ℕ → List Image → List Mapping
-opening_of seed workers images = opening_mappings workers (opening_drawn seed workers images).places
+opening_of seed workers images = opening_mappings workers images (opening_drawn seed workers images).places
 
 -- an address of a place is in its region
 region-of : (p : Place) (at : ℕ) → IsPlace p → IsInside p at → p.region ≡ at / REGION_BYTES
@@ -45,8 +47,8 @@ differ opening p s i j a b less e f same =
     (ap (λ (x : Place). x.region) (get_or_from_slice_get p.drawn.places i a a e) ∙ same ∙ sym (ap (λ (x : Place). x.region) (get_or_from_slice_get p.drawn.places j b a f)))
 
 -- an address whose mapping was unmapped is in no mapping
-apart-now : (opening : List Mapping) (p : Placement) → IsSoundPlacement opening p → (old : ℕ) (gone : Row) (at : ℕ) → slice_get p.mappings old ≡ Some gone → 0 < gone.unmaps → IsInside gone.place at
-    → Each (λ (r : Row). r.unmaps ≡ 0 → IsInside r.place at → ⊥) p.mappings
+apart-now : (opening : List Mapping) (p : Placement) → IsSoundPlacement opening p → (old : ℕ) (gone : Row) (at : ℕ) → slice_get p.rows old ≡ Some gone → 0 < gone.unmaps → IsInside gone.place at
+    → Each (λ (r : Row). r.unmaps ≡ 0 → IsInside r.place at → ⊥) p.rows
 apart-now opening p s old gone at there unmapped inside k r e none within =
     let a = place-at opening p s k r e in
     let b = place-at opening p s old gone there in
@@ -57,15 +59,15 @@ apart-now opening p s old gone at there unmapped inside k r e none within =
         | inl more ↦ differ opening p s old k gone.place r.place more b a (sym same)
         | inr to ↦
             let at_old : k ≡ old = omega (arith, from, to) in
-            let one : Some r ≡ Some gone = sym e ∙ ap (slice_get p.mappings) at_old ∙ there in
+            let one : Some r ≡ Some gone = sym e ∙ ap (slice_get p.rows) at_old ∙ there in
             let is : r ≡ gone = cc in
             absurd (omega (arith, unmapped, none, ap (λ (x : Row). x.unmaps) is))
       ]
     ]
 
 -- nor where anything lies now
-none-now : (opening : List Mapping) (p : Placement) → IsSoundPlacement opening p → (at : ℕ) → Each (λ (r : Row). r.unmaps ≡ 0 → IsInside r.place at → ⊥) p.mappings
-    → (kind : Kind) (who : ℕ) (x : Place) → IsCurrent p.mappings kind who x → IsInside x at → ⊥
+none-now : (opening : List Mapping) (p : Placement) → IsSoundPlacement opening p → (at : ℕ) → Each (λ (r : Row). r.unmaps ≡ 0 → IsInside r.place at → ⊥) p.rows
+    → (kind : Kind) (who : ℕ) (x : Place) → IsCurrent p.rows kind who x → IsInside x at → ⊥
 none-now opening p s at none kind who x c inside = none c.at c.row c.found ((s.once c.at c.row c.found).never c.no_line) (subst (λ q. IsInside q at) (sym c.of_place) inside)
 
 -- an address that is not inside is before or behind
@@ -86,12 +88,12 @@ first-not bytes stack at rest (inl before) = grind (arith, nat_tests)
 first-not bytes stack at rest (inr behind) = grind (arith, nat_tests)
 
 -- so a call finds nothing there, whatever its stack and its data hold
-module _ (rows : List Row) (number worker at : ℕ) (m : ModuleState) (stack : Place) (bytes fixed_data writable : List ℕ) (full : length bytes ≡ STACK_PAGES * PAGE_BYTES) (long : HasData m.image writable fixed_data) (is : IsPlacedModule rows number m) (on : IsPlacedStack rows worker stack) (part : IsInside m.part at → ⊥) (fixed : IsInside m.image.fixed at → ⊥) (stack_out : IsInside stack at → ⊥) where
-  movable-size : total (movable_pieces m.image (base_of m.part) writable) ≡ m.part.pages * 4096
+module _ (rows : List Row) (number worker at : ℕ) (m : ModuleState) (stack : Place) (bytes fixed_data writable : List ℕ) (full : length bytes ≡ STACK_PAGES * PAGE_BYTES) (long : HasData m.image writable fixed_data) (is : IsPlacedModule rows number m) (on : IsPlacedStack rows worker stack) (movable : IsInside m.movable at → ⊥) (fixed : IsInside m.image.fixed at → ⊥) (stack_out : IsInside stack at → ⊥) where
+  movable-size : total (movable_pieces m.image (base_of m.movable) writable) ≡ m.movable.pages * 4096
   movable-size =
       let w = is.whole in
       let table = length-page_of_words m.image.table (omega (arith, w.table_fits)) in
-      let cells = length-page_of_words (map (local_word (base_of m.part)) m.image.cells) (omega (arith, w.cells_fit, length-map m.image.cells (local_word (base_of m.part)))) in
+      let cells = length-page_of_words (map (local_word (base_of m.movable)) m.image.cells) (omega (arith, w.cells_fit, length-map m.image.cells (local_word (base_of m.movable)))) in
       let code = length-split (text_bytes m.image.text_pages) m.image.code in
       omega (arith, table, cells, code, w.code, w.writable, long.movable, is.pages)
 
@@ -102,13 +104,13 @@ module _ (rows : List Row) (number worker at : ℕ) (m : ModuleState) (stack : P
       let code = length-split (text_bytes m.image.fixed_text_pages) m.image.fixed_code in
       omega (arith, table, code, w.fixed_code, w.fixed_data, long.immovable, w.fixed_size)
 
-  holds-none : holding (segments_of m.image m.part stack bytes fixed_data writable) at ≡ None
+  holds-none : holding (segments_of m.image m.movable stack bytes fixed_data writable) at ≡ None
   holds-none =
-      let movable = laid_out (base_of m.part) (movable_pieces m.image (base_of m.part) writable) in
-      let parts = holding-outside (fixed_pieces m.image fixed_data) (base_of m.image.fixed) at movable (outside m.image.fixed at (total (fixed_pieces m.image fixed_data)) fixed fixed-size) in
-      let last = holding-outside (movable_pieces m.image (base_of m.part) writable) (base_of m.part) at [] (outside m.part at (total (movable_pieces m.image (base_of m.part) writable)) part movable-size) in
-      let whole : holding (laid_out (base_of m.image.fixed) (fixed_pieces m.image fixed_data) ++ movable) at ≡ None = parts ∙ ap (λ xs. holding xs at) (sym (append-nil movable)) ∙ last in
-      first-not bytes stack at (laid_out (base_of m.image.fixed) (fixed_pieces m.image fixed_data) ++ movable) (outside stack at (length bytes) stack_out (omega (arith, full, on.pages))) ∙ whole
+      let pieces = laid_out (base_of m.movable) (movable_pieces m.image (base_of m.movable) writable) in
+      let parts = holding-outside (fixed_pieces m.image fixed_data) (base_of m.image.fixed) at pieces (outside m.image.fixed at (total (fixed_pieces m.image fixed_data)) fixed fixed-size) in
+      let last = holding-outside (movable_pieces m.image (base_of m.movable) writable) (base_of m.movable) at [] (outside m.movable at (total (movable_pieces m.image (base_of m.movable) writable)) movable movable-size) in
+      let whole : holding (laid_out (base_of m.image.fixed) (fixed_pieces m.image fixed_data) ++ pieces) at ≡ None = parts ∙ ap (λ xs. holding xs at) (sym (append-nil pieces)) ∙ last in
+      first-not bytes stack at (laid_out (base_of m.image.fixed) (fixed_pieces m.image fixed_data) ++ pieces) (outside stack at (length bytes) stack_out (omega (arith, full, on.pages))) ∙ whole
 
 -- and a fetch where nothing lies, behind region 1, is a fault
 fault-there : (at : ℕ) (memory : List Segment) → holding memory at ≡ None → 2 * REGION_BYTES < at → fetched memory at ≡ Fault
@@ -118,13 +120,19 @@ fault-there at memory none high =
     (λ j. if gate j then Gate else (if in_region_1 at then Fault else word_in at (none j)))
     ∙ cond_both (in_region_1 at) Fault Fault (λ x. x ≡ Fault) (λ e. refl) (λ e. refl)
 
+-- so it is after steps, which leave each segment where it is
+fault-at-steps : (at : ℕ) (segments : List Segment) → holding segments at ≡ None → 2 * REGION_BYTES < at → IsFaultAtEachStep at segments
+fault-at-steps at segments none high steps first later before after same leads =
+    let shapes_stay = led steps first later before after leads ∙ ap shapes same in
+    fault-there at after.segments (holding-none at after.segments segments shapes_stay none) high
+
 module _ (seed workers fuel : ℕ) (images : List Image) (loaded : AreLoaded seed workers images) where
-  pub grown-from : (steps : List ReadyStep) → All (λ s. 1 ≤ line_of s) steps → IsGrown (opening_mappings workers (opening_drawn seed workers images).places) (opening_run workers images (opening_drawn seed workers images)).placement.mappings (run_of_seed seed workers images fuel steps)
+  pub grown-from : (steps : List ReadyStep) → All (λ s. 1 ≤ line_of s) steps → IsGrown (opening_mappings workers images (opening_drawn seed workers images).places) (opening_run workers images (opening_drawn seed workers images)).placement.rows (run_of_seed seed workers images fuel steps)
   grown-from steps some =
       let s = opening_run workers images (opening_drawn seed workers images) in
-      grown-run (opening_of seed workers images) s.placement.mappings fuel s steps some (record { sound = run-opens seed workers images loaded; grows = grows-refl s.placement.mappings })
+      grown-run (opening_of seed workers images) s.placement.rows fuel s steps some (record { sound = run-opens seed workers images loaded; grows = grows-refl s.placement.rows })
 
-  pub sound-run : (steps : List ReadyStep) → AreSteps images workers steps → IsSoundRun (opening_mappings workers (opening_drawn seed workers images).places) (run_of_seed seed workers images fuel steps)
+  pub sound-run : (steps : List ReadyStep) → AreSteps images workers steps → IsSoundState (opening_mappings workers images (opening_drawn seed workers images).places) (run_of_seed seed workers images fuel steps)
   sound-run steps are = (grown-from steps are.from_one).sound
 
   -- data are as long as those of their images
@@ -136,23 +144,23 @@ module _ (seed workers fuel : ℕ) (images : List Image) (loaded : AreLoaded see
   runs-on before after = fold-append (after_step fuel) (opening_run workers images (opening_drawn seed workers images)) before after
 
   grown-on : (before after : List ReadyStep) → AreSteps images workers (before ++ after)
-      → IsGrown (opening_mappings workers (opening_drawn seed workers images).places) (run_of_seed seed workers images fuel before).placement.mappings (run_of_seed seed workers images fuel (before ++ after))
+      → IsGrown (opening_mappings workers images (opening_drawn seed workers images).places) (run_of_seed seed workers images fuel before).placement.rows (run_of_seed seed workers images fuel (before ++ after))
   grown-on before after are =
       let opening = opening_of seed workers images in
       let s = run_of_seed seed workers images fuel before in
       let first = grown-from before (all-front (λ x. 1 ≤ line_of x) before after are.from_one) in
-      subst (IsGrown opening s.placement.mappings) (sym (runs-on before after))
-      (grown-run opening s.placement.mappings fuel s after (all-back (λ x. 1 ≤ line_of x) before after are.from_one) (record { sound = first.sound; grows = grows-refl s.placement.mappings }))
+      subst (IsGrown opening s.placement.rows) (sym (runs-on before after))
+      (grown-run opening s.placement.rows fuel s after (all-back (λ x. 1 ≤ line_of x) before after are.from_one) (record { sound = first.sound; grows = grows-refl s.placement.rows }))
 
-  module _ (before after : List ReadyStep) (are : AreSteps images workers (before ++ after)) (old : ℕ) (gone : Row) (at : ℕ) (there : slice_get (run_of_seed seed workers images fuel before).placement.mappings old ≡ Some gone) (unmapped : 0 < gone.unmaps) (inside : IsInside gone.place at) where
-    stale : Each (λ (r : Row). r.unmaps ≡ 0 → IsInside r.place at → ⊥) (run_of_seed seed workers images fuel (before ++ after)).placement.mappings
+  module _ (before after : List ReadyStep) (are : AreSteps images workers (before ++ after)) (old : ℕ) (gone : Row) (at : ℕ) (there : slice_get (run_of_seed seed workers images fuel before).placement.rows old ≡ Some gone) (unmapped : 0 < gone.unmaps) (inside : IsInside gone.place at) where
+    stale : Each (λ (r : Row). r.unmaps ≡ 0 → IsInside r.place at → ⊥) (run_of_seed seed workers images fuel (before ++ after)).placement.rows
     stale =
         let g = grown-on before after are in
         let x = g.grows.each old gone there in
         apart-now (opening_of seed workers images) (run_of_seed seed workers images fuel (before ++ after)).placement g.sound.sound old x.0 at x.1 (x.3 unmapped) (subst (λ q. IsInside q at) (sym x.2) inside)
 
-    pub stale-apart : All (λ (r : Row). r.unmaps ≡ 0 → IsInside r.place at → ⊥) (run_of_seed seed workers images fuel (before ++ after)).placement.mappings
-    stale-apart = all-each (λ (r : Row). r.unmaps ≡ 0 → IsInside r.place at → ⊥) (run_of_seed seed workers images fuel (before ++ after)).placement.mappings stale
+    pub stale-apart : All (λ (r : Row). r.unmaps ≡ 0 → IsInside r.place at → ⊥) (run_of_seed seed workers images fuel (before ++ after)).placement.rows
+    stale-apart = all-each (λ (r : Row). r.unmaps ≡ 0 → IsInside r.place at → ⊥) (run_of_seed seed workers images fuel (before ++ after)).placement.rows stale
 
     high : 2 * REGION_BYTES < at
     high =
@@ -163,22 +171,22 @@ module _ (seed workers fuel : ℕ) (images : List Image) (loaded : AreLoaded see
         let from : base_of x.0.place ≤ at = subst (λ (q : Place). base_of q ≤ at) (sym x.2) inside.from in
         omega (arith, is.region_from, is.page_before, from)
 
-    none-lies : (kind : Kind) (who : ℕ) (x : Place) → IsCurrent (run_of_seed seed workers images fuel (before ++ after)).placement.mappings kind who x → IsInside x at → ⊥
+    none-lies : (kind : Kind) (who : ℕ) (x : Place) → IsCurrent (run_of_seed seed workers images fuel (before ++ after)).placement.rows kind who x → IsInside x at → ⊥
     none-lies = none-now (opening_of seed workers images) (run_of_seed seed workers images fuel (before ++ after)).placement (grown-on before after are).sound.sound at stale
 
-    pub stale-nothing : All (λ (m : ModuleState). All (λ stack. InEachMemory m.image m.part stack (λ memory. holding memory at ≡ None)) (run_of_seed seed workers images fuel (before ++ after)).stacks) (run_of_seed seed workers images fuel (before ++ after)).modules
+    pub stale-nothing : All (λ (m : ModuleState). All (λ stack. InEachMemory m.image m.movable stack (λ memory. holding memory at ≡ None)) (run_of_seed seed workers images fuel (before ++ after)).stacks) (run_of_seed seed workers images fuel (before ++ after)).modules
     stale-nothing =
         let s = run_of_seed seed workers images fuel (before ++ after) in
         let g = (grown-on before after are).sound in
-        all-each (λ (m : ModuleState). All (λ stack. InEachMemory m.image m.part stack (λ memory. holding memory at ≡ None)) s.stacks) s.modules (λ n m e.
+        all-each (λ (m : ModuleState). All (λ stack. InEachMemory m.image m.movable stack (λ memory. holding memory at ≡ None)) s.stacks) s.modules (λ n m e.
         let is = g.modules n m e in
-        all-each (λ stack. InEachMemory m.image m.part stack (λ memory. holding memory at ≡ None)) s.stacks (λ k stack f bytes fixed writable full long.
+        all-each (λ stack. InEachMemory m.image m.movable stack (λ memory. holding memory at ≡ None)) s.stacks (λ k stack f bytes fixed writable full long.
         let on = g.stacks k stack f in
-        holds-none s.placement.mappings n k at m stack bytes fixed writable full long is on (none-lies kinds.Code n m.part is.part) (none-lies kinds.Fixed n m.image.fixed is.fixed) (none-lies kinds.Stack k stack on.place)))
+        holds-none s.placement.rows n k at m stack bytes fixed writable full long is on (none-lies kinds.Code n m.movable is.movable) (none-lies kinds.Fixed n m.image.fixed is.fixed) (none-lies kinds.Stack k stack on.place)))
 
-    pub stale-fault : All (λ (m : ModuleState). All (λ stack. InEachMemory m.image m.part stack (λ memory. fetched memory at ≡ Fault)) (run_of_seed seed workers images fuel (before ++ after)).stacks) (run_of_seed seed workers images fuel (before ++ after)).modules
+    pub stale-fault : All (λ (m : ModuleState). All (λ stack. InEachMemory m.image m.movable stack (IsFaultAtEachStep at)) (run_of_seed seed workers images fuel (before ++ after)).stacks) (run_of_seed seed workers images fuel (before ++ after)).modules
     stale-fault =
         let s = run_of_seed seed workers images fuel (before ++ after) in
-        all-each (λ (m : ModuleState). All (λ stack. InEachMemory m.image m.part stack (λ memory. fetched memory at ≡ Fault)) s.stacks) s.modules (λ n m e.
-        all-each (λ stack. InEachMemory m.image m.part stack (λ memory. fetched memory at ≡ Fault)) s.stacks (λ k stack f bytes fixed writable full long.
-        fault-there at (segments_of m.image m.part stack bytes fixed writable) (each-all (λ q. InEachMemory m.image m.part q (λ memory. holding memory at ≡ None)) s.stacks (each-all (λ (x : ModuleState). All (λ q. InEachMemory x.image x.part q (λ memory. holding memory at ≡ None)) s.stacks) s.modules stale-nothing n m e) k stack f bytes fixed writable full long) high))
+        all-each (λ (m : ModuleState). All (λ stack. InEachMemory m.image m.movable stack (IsFaultAtEachStep at)) s.stacks) s.modules (λ n m e.
+        all-each (λ stack. InEachMemory m.image m.movable stack (IsFaultAtEachStep at)) s.stacks (λ k stack f bytes fixed writable full long.
+        fault-at-steps at (segments_of m.image m.movable stack bytes fixed writable) (each-all (λ q. InEachMemory m.image m.movable q (λ memory. holding memory at ≡ None)) s.stacks (each-all (λ (x : ModuleState). All (λ q. InEachMemory x.image x.movable q (λ memory. holding memory at ≡ None)) s.stacks) s.modules stale-nothing n m e) k stack f bytes fixed writable full long) high))

@@ -11,11 +11,11 @@ use Rattle.ad_lines.specs.LineRun.{ModuleState, RunState, after_move, move_end, 
 module _ (fuel : ℕ) (s : RunState) (line worker n export : ℕ) (args : List ℕ) where
   -- the call of a module that lies there, on this stack
   abbrev pub call_at : ModuleState → Place → Call
-  call_at m stack = record { line = line; worker = worker; export = export; under = m.part; stack = stack }
+  call_at m stack = record { line = line; worker = worker; export = export; under = m.movable; stack = stack }
 
   -- the run once it was made
   abbrev pub called : ModuleState → Place → RunState
-  called m stack = record { modules = set s.modules n (record { image = m.image; part = m.part; book = after_call m.image fuel m.book (call_at m stack) args }); stacks = s.stacks; placement = s.placement }
+  called m stack = record { modules = set s.modules n (record { image = m.image; movable = m.movable; book = after_call m.image fuel m.book (call_at m stack) args }); stacks = s.stacks; placement = s.placement }
 
   -- where the module and the stack are there, the call is made
   pub call-is : (m : ModuleState) (stack : Place) → slice_get s.modules n ≡ Some m → slice_get s.stacks worker ≡ Some stack → with_call fuel s line worker n export args ≡ called m stack
@@ -40,7 +40,7 @@ module _ (fuel : ℕ) (s : RunState) (line worker n export : ℕ) (args : List �
 module _ (line : ℕ) (s : RunState) (n : ℕ) where
   -- the run once the module was moved
   abbrev pub moved_to : ModuleState → RunState
-  moved_to m = record { modules = set s.modules n (record { image = m.image; part = place_after m.part (move_end s.placement.drawn Code m.part.pages); book = m.book }); stacks = s.stacks; placement = after_move s.placement line Code n m.part }
+  moved_to m = record { modules = set s.modules n (record { image = m.image; movable = place_after m.movable (move_end s.placement.drawn Code m.movable.pages); book = m.book }); stacks = s.stacks; placement = after_move s.placement line Code n m.movable }
 
   move-by : (P : RunState → Type 0) → P s → ((m : ModuleState) → slice_get s.modules n ≡ Some m → P (moved_to m)) → (o : Option ModuleState) → slice_get s.modules n ≡ o → P (option_map_or (λ m. moved_to m) o s)
   move-by P p step None there = p

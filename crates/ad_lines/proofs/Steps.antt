@@ -42,36 +42,36 @@ module _ (modules : List ModuleRun) (n : ℕ) (m : ModuleRun) (within : n < leng
   -- a call of the module
   pub called : (fuel line worker export : ℕ) (args : List ℕ) (stacks : List Place) (p : Placement) (stack : Place) (book : Book)
       → slice_get stacks worker ≡ Some stack
-      → (let call : Call = record { line = line; worker = worker; export = export; under = m.part; stack = stack } in contents_of book ≡ after_call m.image fuel (contents_of m.book) call args)
-      → run_of (set modules n (record { image = m.image; part = m.part; book = book })) stacks p ≡ with_call fuel (run_of modules stacks p) line worker n export args
+      → (let call : Call = record { line = line; worker = worker; export = export; under = m.movable; stack = stack } in contents_of book ≡ after_call m.image fuel (contents_of m.book) call args)
+      → run_of (set modules n (record { image = m.image; movable = m.movable; book = book })) stacks p ≡ with_call fuel (run_of modules stacks p) line worker n export args
   called fuel line worker export args stacks p stack book there after =
       let s = run_of modules stacks p in
-      let call : Place → Call = λ at. record { line = line; worker = worker; export = export; under = m.part; stack = at } in
-      let inner = λ (x : ModuleState) (o : Option Place). option_map_or (λ at. let c : Call = record { line = line; worker = worker; export = export; under = x.part; stack = at } in record { modules = set (map module_state modules) n (record { image = x.image; part = x.part; book = after_call x.image fuel x.book c args }); stacks = stacks; placement = p }) o s in
-      let written : map module_state (set modules n (record { image = m.image; part = m.part; book = book })) ≡ set (map module_state modules) n (record { image = m.image; part = m.part; book = after_call m.image fuel (contents_of m.book) (call stack) args }) =
-      map-set module_state modules n (record { image = m.image; part = m.part; book = book })
-      ∙ ap (λ (b : Contents). set (map module_state modules) n (record { image = m.image; part = m.part; book = b })) after in
+      let call : Place → Call = λ at. record { line = line; worker = worker; export = export; under = m.movable; stack = at } in
+      let inner = λ (x : ModuleState) (o : Option Place). option_map_or (λ at. let c : Call = record { line = line; worker = worker; export = export; under = x.movable; stack = at } in record { modules = set (map module_state modules) n (record { image = x.image; movable = x.movable; book = after_call x.image fuel x.book c args }); stacks = stacks; placement = p }) o s in
+      let written : map module_state (set modules n (record { image = m.image; movable = m.movable; book = book })) ≡ set (map module_state modules) n (record { image = m.image; movable = m.movable; book = after_call m.image fuel (contents_of m.book) (call stack) args }) =
+      map-set module_state modules n (record { image = m.image; movable = m.movable; book = book })
+      ∙ ap (λ (b : Contents). set (map module_state modules) n (record { image = m.image; movable = m.movable; book = b })) after in
       (λ j. record { modules = written j; stacks = stacks; placement = p })
       ∙ ap (inner (module_state m)) (sym there)
       ∙ ap (λ (o : Option ModuleState). option_map_or (λ x. inner x (slice_get stacks worker)) o s) (sym found)
 
   -- a move of the module
   pub moved : (line : ℕ) (stacks : List Place) (p after : Placement) (place : Place)
-      → place ≡ place_after m.part (move_end p.drawn Code m.part.pages) → after ≡ after_move p line Code n m.part
-      → run_of (set modules n (record { image = m.image; part = place; book = m.book })) stacks after ≡ with_module_moved line (run_of modules stacks p) n
+      → place ≡ place_after m.movable (move_end p.drawn Code m.movable.pages) → after ≡ after_move p line Code n m.movable
+      → run_of (set modules n (record { image = m.image; movable = place; book = m.book })) stacks after ≡ with_module_moved line (run_of modules stacks p) n
   moved line stacks p after place is_there is_after =
       let s = run_of modules stacks p in
-      let written = map-set module_state modules n (record { image = m.image; part = place; book = m.book })
-      ∙ ap (λ q. set (map module_state modules) n (record { image = m.image; part = q; book = contents_of m.book })) is_there in
+      let written = map-set module_state modules n (record { image = m.image; movable = place; book = m.book })
+      ∙ ap (λ q. set (map module_state modules) n (record { image = m.image; movable = q; book = contents_of m.book })) is_there in
       (λ j. record { modules = written j; stacks = stacks; placement = is_after j })
-      ∙ ap (λ (o : Option ModuleState). option_map_or (λ x. record { modules = set (map module_state modules) n (record { image = x.image; part = place_after x.part (move_end p.drawn Code x.part.pages); book = x.book }); stacks = stacks; placement = after_move p line Code n x.part }) o s) (sym found)
+      ∙ ap (λ (o : Option ModuleState). option_map_or (λ x. record { modules = set (map module_state modules) n (record { image = x.image; movable = place_after x.movable (move_end p.drawn Code x.movable.pages); book = x.book }); stacks = stacks; placement = after_move p line Code n x.movable }) o s) (sym found)
 
   -- the room once the history of the module has other room
-  pub room-set : (book : Book) (part : Place) → map room_of (set modules n (record { image = m.image; part = part; book = book })) ≡ set (map room_of modules) n book.history.room
-  room-set book part = map-set room_of modules n (record { image = m.image; part = part; book = book })
+  pub room-set : (book : Book) (movable : Place) → map room_of (set modules n (record { image = m.image; movable = movable; book = book })) ≡ set (map room_of modules) n book.history.room
+  room-set book movable = map-set room_of modules n (record { image = m.image; movable = movable; book = book })
 
-  pub room-kept : (part : Place) → map room_of (set modules n (record { image = m.image; part = part; book = m.book })) ≡ map room_of modules
-  room-kept part = map-set_same room_of modules n (record { image = m.image; part = part; book = m.book }) m (ap room_of is)
+  pub room-kept : (movable : Place) → map room_of (set modules n (record { image = m.image; movable = movable; book = m.book })) ≡ map room_of modules
+  room-kept movable = map-set_same room_of modules n (record { image = m.image; movable = movable; book = m.book }) m (ap room_of is)
 
   pub room-here : slice_index (map room_of modules) n ≡ room_of m
   room-here = get_or-map room_of modules n m 0 within ∙ ap room_of (sym is)

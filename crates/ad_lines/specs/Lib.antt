@@ -3,3 +3,4 @@ pub mod LineRun
 pub mod Opening
 pub mod Room
 pub mod LineLaws
+pub mod Private

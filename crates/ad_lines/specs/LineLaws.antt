@@ -1,6 +1,6 @@
 -- Words of the laws of line runs.
 use Rattle.std.specs.Prelude.{◌≡◌, ℕ, ◌+◌, ◌*◌, ◌<◌, ◌≤◌, ◌↔◌, ◌==◌, ◌&&◌, if◌then◌else◌, List, [], ◌∷◌, fold, length, map, slice_get, All, unwrap_or}
-use Rattle.std.specs.List.{AllPairs, flat_map}
+use Rattle.std.specs.List.{AllPairs, filter}
 use Rattle.std.specs.Option.{option_map_or}
 use Rattle.ad_base.specs.declared.book.Entry.{Entry}
 use Rattle.ad_base.specs.declared.image.Image.{Image}
@@ -14,13 +14,18 @@ use Rattle.ad_base.specs.declared.place.Place.{Place}
 use Rattle.ad_base.specs.Image.{fixed_pages, movable_pages}
 use Rattle.ad_base.specs.Ledger.{is_made, is_same_kind, made_mapping, made_place}
 use Rattle.ad_call.specs.Call.{HasData}
+use Rattle.ad_core.specs.declared.bus.Fetched.TheVariants.{Fault}
 use Rattle.ad_core.specs.Image.{segments_of}
-use Rattle.ad_core.specs.Segments.{Segment}
+use Rattle.ad_core.specs.Plain.{Memory}
+use Rattle.ad_core.specs.Segments.{Segment, fetched}
+use Rattle.ad_core.specs.Steps.{LeadsTo}
+use Rattle.ad_isa.specs.Step.{State}
 use Rattle.ad_lines.specs.declared.ready.ReadyStep.{ReadyStep}
 use Rattle.ad_lines.specs.declared.ready.ReadyStep.TheVariants.{Call, Move, Stack}
 use Rattle.ad_lines.specs.LineRun.{RunState, line_run}
 use Rattle.ad_lines.specs.Opening.{opening_drawn, opening_run}
 use Rattle.ad_lines.specs.Ready.{IsRunnable}
+use Rattle.ad_lines.specs.Room.{is_call_of}
 
 -- the number of a step's line
 abbrev pub line_of : ReadyStep → ℕ
@@ -38,48 +43,35 @@ pub record AreSteps (images : List Image) (workers : ℕ) (steps : List ReadySte
 abbrev pub run_of_seed : ℕ → ℕ → List Image → ℕ → List ReadyStep → RunState
 run_of_seed seed workers images fuel steps = line_run fuel (opening_run workers images (opening_drawn seed workers images)) steps
 
--- what a step asks of a module: its line, the worker, the export and the arguments, if it calls it
-pub record Asking : Type 0 where
-  pub line : ℕ
-  pub worker : ℕ
-  pub export : ℕ
-  pub args : List ℕ
+-- the step of an entry of the module of this number
+abbrev pub step_of : ℕ → Entry → ReadyStep
+step_of number e = Call e.line e.worker number e.export e.args
 
--- what an entry's call asked of its module
-abbrev pub asking_of : Entry → Asking
-asking_of e = record { line = e.line; worker = e.worker; export = e.export; args = e.args }
+-- the steps that call a module, in order
+abbrev pub calls_of_module : ℕ → List ReadyStep → List ReadyStep
+calls_of_module number steps = filter (is_call_of number) steps
 
--- what a step asks of the module of this number, if it calls it
-abbrev pub asked_by : ℕ → ReadyStep → List Asking
-asked_by number (Call line worker «module» export args) = if «module» == number then record { line = line; worker = worker; export = export; args = args } ∷ [] else []
-asked_by number (Move line modules) = []
-asked_by number (Stack line worker) = []
-
--- what steps ask of a module, in order
-abbrev pub asked_of_module : ℕ → List ReadyStep → List Asking
-asked_of_module number steps = flat_map (asked_by number) steps
-
--- the entry is of this call, under this place of the module and on this stack
-pub record IsEntryOf (a : Asking) (under stack : Place) (e : Entry) : Type 0 where
-  pub asked : asking_of e ≡ a
+-- the entry is of this step, in the book of the module of this number, under this place of the module and on this stack
+pub record IsEntryOf (number : ℕ) (step : ReadyStep) (under stack : Place) (e : Entry) : Type 0 where
+  pub of_step : step_of number e ≡ step
   pub at_place : e.under ≡ under
   pub on_stack : e.stack ≡ stack
 
 -- what a step moves: its line, and what of whom
-pub record Moving : Type 0 where
+pub record MoveRequest : Type 0 where
   pub line : ℕ
   pub kind : Kind
   pub who : ℕ
 
 -- what was moved, whatever came of it
-abbrev pub moving_of : Moved → Moving
-moving_of m = record { line = m.line; kind = m.kind; who = m.who }
+abbrev pub move_request : Moved → MoveRequest
+move_request m = record { line = m.line; kind = m.kind; who = m.who }
 
 -- what a step moves, in order
-abbrev pub moved_by : ReadyStep → List Moving
-moved_by (Call line worker «module» export args) = []
-moved_by (Move line modules) = map (λ m. record { line = line; kind = kinds.Code; who = m }) modules
-moved_by (Stack line worker) = record { line = line; kind = kinds.Stack; who = worker } ∷ []
+abbrev pub move_requests : ReadyStep → List MoveRequest
+move_requests (Call line worker «module» export args) = []
+move_requests (Move line modules) = map (λ m. record { line = line; kind = kinds.Code; who = m }) modules
+move_requests (Stack line worker) = record { line = line; kind = kinds.Stack; who = worker } ∷ []
 
 -- what comes of a move where so many places were drawn before: it is spent exactly where all mapping numbers are given
 -- away, and no frame is ever busy
@@ -94,8 +86,8 @@ thing_pages images kinds.Fixed who = option_map_or fixed_pages (slice_get images
 thing_pages images kinds.Stack who = STACK_PAGES
 
 -- the place that a move draws, if it is made, by the kind and the pages of what is moved
-abbrev pub request_of : List Image → Moved → List (Kind × ℕ)
-request_of images m = if is_made m then (m.kind, thing_pages images m.kind m.who) ∷ [] else []
+abbrev pub draw_of : List Image → Moved → List (Kind × ℕ)
+draw_of images m = if is_made m then (m.kind, thing_pages images m.kind m.who) ∷ [] else []
 
 -- what comes of moves, in order, where so many places were drawn before the first
 abbrev pub AreMoveEnds : ℕ → List Moved → Type 0
@@ -111,3 +103,8 @@ last_place kind who first moves = fold (λ p (m : Moved). if is_same_kind kind m
 abbrev pub InEachMemory : Image → Place → Place → (List Segment → Type 0) → Type 0
 InEachMemory image under stack P = (bytes fixed writable : List ℕ) → length bytes ≡ STACK_PAGES * PAGE_BYTES → HasData image writable fixed
     → P (segments_of image under stack bytes fixed writable)
+
+-- whatever steps of the plain machine lead on from these segments, a fetch at the address is a fault then
+abbrev pub IsFaultAtEachStep : ℕ → List Segment → Type 0
+IsFaultAtEachStep at segments = (steps : ℕ) (first later : State ℕ) (before after : Memory) → before.segments ≡ segments → LeadsTo steps first before later after
+    → fetched after.segments at ≡ Fault

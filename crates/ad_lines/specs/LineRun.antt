@@ -14,7 +14,7 @@ use Rattle.ad_base.specs.declared.ledger.Row.{Row}
 use Rattle.ad_base.specs.declared.place.Place.{Place}
 use Rattle.ad_base.specs.Book.{Contents}
 use Rattle.ad_base.specs.Ledger.{made_place}
-use Rattle.ad_base.specs.Memory.{risen}
+use Rattle.ad_base.specs.Count.{risen}
 use Rattle.ad_call.specs.declared.call.Call.{Call}
 use Rattle.ad_call.specs.Call.{after_call}
 use Rattle.ad_place.specs.Choice.{Drawn, next_place, with_next}
@@ -24,7 +24,7 @@ use Rattle.ad_lines.specs.declared.ready.ReadyStep.TheVariants as steps
 -- a module: its image, where its movable part lies, and what its book holds
 pub record ModuleState : Type 0 where
   pub image : Image
-  pub part : Place
+  pub movable : Place
   pub book : Contents
 
 -- the places that were drawn, what came of the lines that move something, and a row for each mapping so far, in
@@ -32,7 +32,7 @@ pub record ModuleState : Type 0 where
 pub record Placement : Type 0 where
   pub drawn : Drawn
   pub moves : List Moved
-  pub mappings : List Row
+  pub rows : List Row
 
 -- what the lines so far have come to: the modules, and the stacks of the workers, each in order of their numbers
 pub record RunState : Type 0 where
@@ -44,7 +44,7 @@ pub record RunState : Type 0 where
 abbrev pub with_call : ℕ → RunState → ℕ → ℕ → ℕ → ℕ → List ℕ → RunState
 with_call fuel s line worker number export args =
     option_map_or (λ m. option_map_or (λ stack.
-    let call : Call = record { line = line; worker = worker; export = export; under = m.part; stack = stack } in
+    let call : Call = record { line = line; worker = worker; export = export; under = m.movable; stack = stack } in
     record s { modules = slice_set s.modules number (record m { book = after_call m.image fuel m.book call args }) })
     (slice_get s.stacks worker) s)
     (slice_get s.modules number) s
@@ -80,15 +80,15 @@ after_move p line kind who old =
     record {
       drawn = drawn_after p.drawn kind old.pages end;
       moves = p.moves ++ record { line = line; kind = kind; who = who; end = end } ∷ [];
-      mappings = option_map_or (λ new. replaced p.mappings line kind who old new) (made_place end) p.mappings;
+      rows = option_map_or (λ new. replaced p.rows line kind who old new) (made_place end) p.rows;
     }
 
 -- the run once a line moved a module
 abbrev pub with_module_moved : ℕ → RunState → ℕ → RunState
 with_module_moved line s number =
     option_map_or (λ m. record s {
-      modules = slice_set s.modules number (record m { part = place_after m.part (move_end s.placement.drawn kinds.Code m.part.pages) });
-      placement = after_move s.placement line kinds.Code number m.part;
+      modules = slice_set s.modules number (record m { movable = place_after m.movable (move_end s.placement.drawn kinds.Code m.movable.pages) });
+      placement = after_move s.placement line kinds.Code number m.movable;
     }) (slice_get s.modules number) s
 
 -- the run once a line gave a worker a fresh stack

@@ -1,22 +1,11 @@
 -- What is seen of the code's run: what the lines came to, and the room that was taken before the first line.
-use Rattle.std.specs.Prelude.{◌≡◌, ℕ, ◌+◌, ◌≤◌, Bool, false, ◌==◌, List, length, map, sum_by, slice_get, Some, All, if◌then◌else◌}
+use Rattle.std.specs.Prelude.{◌≡◌, ℕ, ◌≤◌, Bool, false, ◌==◌, List, length, map, sum_by, slice_get, Some, if◌then◌else◌}
 use Rattle.ad_base.specs.declared.image.Image.{Image}
-use Rattle.ad_base.specs.declared.layout.TheConstants.{MAPPINGS}
-use Rattle.ad_base.specs.declared.ledger.Row.{Row}
-use Rattle.ad_base.specs.declared.place.Place.{Place}
 use Rattle.ad_base.specs.Book.{contents_of}
-use Rattle.ad_base.specs.Image.{IsWhole}
-use Rattle.ad_base.specs.Place.{IsPlace}
-use Rattle.ad_call.specs.Call.{HasData}
 use Rattle.ad_lines.specs.declared.line_run.ModuleRun.{ModuleRun}
 use Rattle.ad_lines.specs.declared.ready.ReadyStep.{ReadyStep}
 use Rattle.ad_lines.specs.declared.ready.ReadyStep.TheVariants.{Call, Move, Stack}
-use Rattle.ad_lines.specs.LineRun.{ModuleState, Placement, RunState}
-
--- a placement, and for how many more moves there is room
-pub record RoomyPlacement : Type 0 where
-  pub placement : Placement
-  pub room : ℕ
+use Rattle.ad_lines.specs.LineRun.{ModuleState, RunState}
 
 -- a run, the steps that a call may make, and for how many calls of each module and how many moves there is room
 pub record Running : Type 0 where
@@ -25,39 +14,9 @@ pub record Running : Type 0 where
   pub call_room : List ℕ
   pub move_room : ℕ
 
--- rows are numbered from 1
-abbrev pub AreNumbered : List Row → Type 0
-AreNumbered rows = (k : ℕ) (r : Row) → slice_get rows k ≡ Some r → r.mapping ≡ k + 1
-
--- places have mapping numbers from 1 on
-abbrev pub AreNumberedPlaces : List Place → Type 0
-AreNumberedPlaces places = (k : ℕ) (p : Place) → slice_get places k ≡ Some p → p.mapping ≡ k + 1
-
--- there is a numbered row for each place that was drawn, and room for all that may be drawn
-pub record IsMappingList (places : List Place) (rows : List Row) (capacity : ℕ) : Type 0 where
-  pub numbered : AreNumbered rows
-  pub each : length rows ≡ length places
-  pub room : MAPPINGS ≤ capacity
-
 -- what the lines came to for a module
 abbrev pub module_state : ModuleRun → ModuleState
-module_state m = record { image = m.image; part = m.part; book = contents_of m.book }
-
--- a place with one of so many mapping numbers
-pub record IsMapped (count : ℕ) (p : Place) : Type 0 where
-  pub place : IsPlace p
-  pub number : p.mapping ≤ count
-
--- a module whose image is whole, whose data has the image's size, and which lies at a mapped place
-pub record IsModuleRun (count : ℕ) (m : ModuleRun) : Type 0 where
-  pub whole : IsWhole m.image
-  pub lengths : HasData m.image m.book.writable m.book.fixed
-  pub mapped : IsMapped count m.part
-
--- all modules and stacks are so
-pub record IsSound (count : ℕ) (modules : List ModuleRun) (stacks : List Place) : Type 0 where
-  pub modules_are : All (IsModuleRun count) modules
-  pub stacks_are : All (IsMapped count) stacks
+module_state m = record { image = m.image; movable = m.movable; book = contents_of m.book }
 
 -- a step that calls a module
 abbrev pub is_call_of : ℕ → ReadyStep → Bool

@@ -11,7 +11,7 @@ ghost use Rattle.ad_lines.specs.declared.ready.ReadyStep.TheVariants.{Call};
 ghost use Rattle.ad_lines.specs.LineRun.{ModuleState};
 ghost use Rattle.ad_lines.specs.Opening.{AreLoaded};
 ghost use Rattle.ad_lines.specs.Room.{images_of};
-ghost use Rattle.ad_lines.specs.LineLaws.{AreSteps, IsEntryOf, asked_of_module, asking_of, run_of_seed};
+ghost use Rattle.ad_lines.specs.LineLaws.{AreSteps, IsEntryOf, calls_of_module, run_of_seed, step_of};
 
 /// The book of each module of a line run is lawful: turns of the plain machine reach it from the opening book of its
 /// image, one for each step that calls the module, in order of the steps. A call runs under the place that its module
@@ -26,7 +26,7 @@ pub fn law_books()
     ensures calls { (seed workers fuel : ℕ) (images : List Image) (steps : List ReadyStep)
         → AreLoaded seed workers images → AreSteps images workers steps
         → (number : ℕ) (m : ModuleState) → slice_get (run_of_seed seed workers images fuel steps).modules number ≡ Some m
-        → map asking_of m.book.entries ≡ asked_of_module number steps }
+        → map (step_of number) m.book.entries ≡ calls_of_module number steps }
     ensures order { (seed workers fuel : ℕ) (images : List Image) (steps : List ReadyStep)
         → AreLoaded seed workers images → AreSteps images workers steps
         → All (λ (m : ModuleState). IsNonDecreasingBy (λ e. e.line) m.book.entries) (run_of_seed seed workers images fuel steps).modules }
@@ -36,8 +36,8 @@ pub fn law_books()
         → slice_get (run_of_seed seed workers images fuel before).modules number ≡ Some then
         → slice_get (run_of_seed seed workers images fuel before).stacks worker ≡ Some stack
         → slice_get (run_of_seed seed workers images fuel (before ++ Call line worker number export args ∷ after)).modules number ≡ Some now
-        → IsSomeAnd (slice_get now.book.entries (length (asked_of_module number before)))
-        (IsEntryOf (record { line = line; worker = worker; export = export; args = args }) then.part stack) }
+        → IsSomeAnd (slice_get now.book.entries (length (calls_of_module number before)))
+        (IsEntryOf number (Call line worker number export args) then.movable stack) }
 {}
 
 /// The entries of each module's clear history have the ends and the notes that the symbolic machine says of these

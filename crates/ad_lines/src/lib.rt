@@ -1,4 +1,4 @@
-//! The run of a script's lines on one thread, over any number of modules and workers.
+//! The run of a script's lines on one thread, over up to 8 modules and 64 workers.
 #![tactic(auto)]
 
 mod book_laws;

@@ -23,7 +23,7 @@ use std::marker::Model;
 pub struct ModuleRun {
     pub image: Image,
     /// Where the movable part lies.
-    pub part: Place,
+    pub movable: Place,
     pub book: Book,
 }
 
@@ -34,8 +34,8 @@ pub struct Finished {
     pub books: Vec<Book>,
     /// What came of the lines that move something, in their order.
     pub moves: Vec<Moved>,
-    /// All mappings, in order of number.
-    pub mappings: Vec<Row>,
+    /// A row for each mapping, in order of number.
+    pub rows: Vec<Row>,
 }
 
 /// The run of lines on one thread: what the lines so far have come to, and the room for the others. All memory that
@@ -52,7 +52,8 @@ pub struct LineRun {
 
 impl Model for LineRun {
     ghost use Rattle.std.specs.Prelude.{length, map};
-    ghost use Rattle.ad_lines.specs.Room.{IsSound, Running, module_state};
+    ghost use Rattle.ad_lines.specs.Room.{Running, module_state};
+    ghost use Rattle.ad_lines.specs.Private.Places.{IsSound};
 
     ghost Value = { Running };
 
@@ -63,7 +64,7 @@ impl Model for LineRun {
       move_room = r.mappings.room;
     } };
 
-    ghost invariant = { λ r. IsSound (length r.mappings.placement.mappings) r.modules.items r.stacks.items };
+    ghost invariant = { λ r. IsSound (length r.mappings.placement.rows) r.modules.items r.stacks.items };
 }
 
 impl LineRun {
@@ -85,10 +86,10 @@ impl LineRun {
         ensures fuel { IfOk result (λ run. run.fuel ≡ fuel) }
         ensures room { IfOk result (HasRoom steps.now) }
     {
-        let places = placer.places();
-        let stacks = Vec::from_slice(alloc, &places[..workers as usize])?;
-        let modules = open_modules(alloc, images, &places[workers as usize..], steps)?;
-        let mappings = MappingList::open(alloc, placer, workers, moves_of(steps))?;
+        let mappings = MappingList::open(alloc, placer, workers, &images, moves_of(steps))?;
+        let stacks = mappings.places_of_kind(alloc, Kind::Stack)?;
+        let parts = mappings.places_of_kind(alloc, Kind::Code)?;
+        let modules = open_modules(alloc, images, &parts, steps)?;
         Ok(LineRun {
             modules,
             stacks,
@@ -101,15 +102,11 @@ impl LineRun {
     pub fn finish(self, alloc: Global) -> Result<Finished, OutOfMemory>
         ensures books { IfOk result (λ end. map contents_of end.books.items ≡ map (λ m. m.book) self.state.modules) }
         ensures moves { IfOk result (λ end. end.moves.items ≡ self.state.placement.moves) }
-        ensures mappings { IfOk result (λ end. end.mappings.items ≡ self.state.placement.mappings) }
+        ensures rows { IfOk result (λ end. end.rows.items ≡ self.state.placement.rows) }
     {
         let books = books_of(alloc, self.modules)?;
-        let (moves, mappings) = self.mappings.finish();
-        Ok(Finished {
-            books,
-            moves,
-            mappings,
-        })
+        let (moves, rows) = self.mappings.finish();
+        Ok(Finished { books, moves, rows })
     }
 
     /// Runs steps, in order.
@@ -163,7 +160,7 @@ impl LineRun {
             line,
             worker,
             export,
-            under: called.part,
+            under: called.movable,
             stack,
         };
         run_call(&called.image, &mut called.book, call, args, self.fuel);
@@ -192,10 +189,10 @@ impl LineRun {
         ensures move_room { self.new.move_room + 1 ≡ self.old.move_room }
         ensures call_room { self.new.call_room ≡ self.old.call_room }
     {
-        let old = self.modules[module as usize].part;
+        let old = self.modules[module as usize].movable;
         let end = self.mappings.replace(line, Kind::Code, module, old);
         let moved = &mut self.modules[module as usize];
-        moved.part = end.place().unwrap_or(old);
+        moved.movable = end.place().unwrap_or(old);
     }
 
     /// Gives a worker a stack at another place, if a mapping number is left.
@@ -213,24 +210,28 @@ impl LineRun {
     }
 }
 
-/// The modules of these images before their first calls, with room for the calls of these steps. The places are in
-/// turn those of an immovable and of a movable part.
+/// The modules of these images before their first calls, with their movable parts at these places, and with room for the
+/// calls of these steps.
 fn open_modules(
     alloc: Global,
     images: Vec<Image>,
-    places: &[Place],
+    parts: &[Place],
     steps: &[ReadyStep],
 ) -> Result<Vec<ModuleRun>, OutOfMemory>
-    requires { length places.now ≡ 2 * vec_len images }
-    ensures modules { IfOk result (λ modules. map module_state modules.items ≡ opening_modules images.items places.now) }
+    requires { length parts.now ≡ vec_len images }
+    ensures modules { IfOk result (λ modules. map module_state modules.items ≡ opening_modules images.items parts.now) }
     ensures room { IfOk result (λ modules. (m room : ℕ) → slice_get (map (λ m. m.book.history.room) modules.items) m ≡ Some room → room ≡ sum_by (calls_of m) steps.now) }
 {
     let mut modules = Vec::new(alloc);
     for image in images {
         let number = modules.len();
-        let part = places[2 * number + 1];
+        let movable = parts[number];
         let book = open_book(alloc, &image, calls_of(number as u64, steps))?;
-        modules.push(ModuleRun { image, part, book })?;
+        modules.push(ModuleRun {
+            image,
+            movable,
+            book,
+        })?;
     }
     Ok(modules)
 }

@@ -10,33 +10,33 @@ ghost use Rattle.ad_base.specs.declared.place.Place.{Place};
 ghost use Rattle.ad_base.specs.Ledger.{IsLedger, IsUnmappedOnce, made_mappings};
 ghost use Rattle.ad_base.specs.Place.{IsInside};
 ghost use Rattle.ad_call.specs.Call.{HasData};
-ghost use Rattle.ad_core.specs.declared.bus.Fetched.TheVariants.{Fault};
-ghost use Rattle.ad_core.specs.Segments.{fetched, holding};
+ghost use Rattle.ad_core.specs.Segments.{holding};
 ghost use Rattle.ad_place.specs.Choice.{places_of};
 ghost use Rattle.ad_lines.specs.declared.ready.ReadyStep.{ReadyStep};
 ghost use Rattle.ad_lines.specs.LineRun.{ModuleState};
-ghost use Rattle.ad_lines.specs.Opening.{AreLoaded, opening_drawn, opening_mappings, opening_requests, opening_run};
-ghost use Rattle.ad_lines.specs.LineLaws.{AreMoveEnds, AreSteps, InEachMemory, last_place, moved_by, moving_of, request_of, run_of_seed};
+ghost use Rattle.ad_lines.specs.Opening.{AreLoaded, drawn_for, opening_drawn, opening_mappings, opening_requests, opening_run};
+ghost use Rattle.ad_lines.specs.LineLaws.{AreMoveEnds, AreSteps, InEachMemory, IsFaultAtEachStep, last_place, move_requests, move_request, draw_of, run_of_seed};
 
 use ad_base::MAPPINGS;
 
-/// The moves of a line run are those of its steps, in order, and each of its places is the next one that the seed
-/// chooses, for the pages of what is moved: a module's movable part or a stack. A move is spent exactly where 4,095 places were drawn before it, and no frame is ever busy. A module and a
-/// stack lie where the last move of them put them.
+/// The moves of a line run are those of its steps, in order. The places that were drawn are the next ones that the seed
+/// chooses, for the pages of what is placed: the opening, and then what each move that is made moves. That the mappings
+/// have these places is said by `law_ledger`. A move is spent exactly where 4,095 places were drawn before it, and no
+/// frame is ever busy. A module and a stack lie where the last move of them put them.
 pub fn law_moves()
     ensures moves { (seed workers fuel : ℕ) (images : List Image) (steps : List ReadyStep)
         → AreLoaded seed workers images → AreSteps images workers steps
-        → map moving_of (run_of_seed seed workers images fuel steps).placement.moves ≡ flat_map moved_by steps }
+        → map move_request (run_of_seed seed workers images fuel steps).placement.moves ≡ flat_map move_requests steps }
     ensures order { (seed workers fuel : ℕ) (images : List Image) (steps : List ReadyStep)
         → AreLoaded seed workers images → AreSteps images workers steps
         → IsNonDecreasingBy (λ m. m.line) (run_of_seed seed workers images fuel steps).placement.moves }
     ensures ends { (seed workers fuel : ℕ) (images : List Image) (steps : List ReadyStep)
         → AreLoaded seed workers images → AreSteps images workers steps
-        → AreMoveEnds (workers + 2 * length images) (run_of_seed seed workers images fuel steps).placement.moves }
+        → AreMoveEnds (length (opening_requests workers images)) (run_of_seed seed workers images fuel steps).placement.moves }
     ensures places { (seed workers fuel : ℕ) (images : List Image) (steps : List ReadyStep)
         → AreLoaded seed workers images → AreSteps images workers steps
         → (run_of_seed seed workers images fuel steps).placement.drawn.places
-        ≡ places_of seed (opening_requests workers images ++ flat_map (request_of images) (run_of_seed seed workers images fuel steps).placement.moves) }
+        ≡ places_of seed (map drawn_for (opening_requests workers images) ++ flat_map (draw_of images) (run_of_seed seed workers images fuel steps).placement.moves) }
     ensures few { (seed workers fuel : ℕ) (images : List Image) (steps : List ReadyStep)
         → AreLoaded seed workers images → AreSteps images workers steps
         → length (run_of_seed seed workers images fuel steps).placement.drawn.places ≤ MAPPINGS }
@@ -45,7 +45,7 @@ pub fn law_moves()
         → (number : ℕ) (first now : ModuleState)
         → slice_get (opening_run workers images (opening_drawn seed workers images)).modules number ≡ Some first
         → slice_get (run_of_seed seed workers images fuel steps).modules number ≡ Some now
-        → now.part ≡ last_place kinds.Code number first.part (run_of_seed seed workers images fuel steps).placement.moves }
+        → now.movable ≡ last_place kinds.Code number first.movable (run_of_seed seed workers images fuel steps).placement.moves }
     ensures stacks { (seed workers fuel : ℕ) (images : List Image) (steps : List ReadyStep)
         → AreLoaded seed workers images → AreSteps images workers steps
         → (worker : ℕ) (first now : Place)
@@ -59,40 +59,40 @@ pub fn law_moves()
 pub fn law_ledger()
     ensures ledger { (seed workers fuel : ℕ) (images : List Image) (steps : List ReadyStep)
         → AreLoaded seed workers images → AreSteps images workers steps
-        → IsLedger (opening_mappings workers (opening_drawn seed workers images).places
+        → IsLedger (opening_mappings workers images (opening_drawn seed workers images).places
         ++ made_mappings (run_of_seed seed workers images fuel steps).placement.moves)
-        (run_of_seed seed workers images fuel steps).placement.mappings }
+        (run_of_seed seed workers images fuel steps).placement.rows }
     ensures unmapped { (seed workers fuel : ℕ) (images : List Image) (steps : List ReadyStep)
         → AreLoaded seed workers images → AreSteps images workers steps
-        → All IsUnmappedOnce (run_of_seed seed workers images fuel steps).placement.mappings }
+        → All IsUnmappedOnce (run_of_seed seed workers images fuel steps).placement.rows }
     ensures places { (seed workers fuel : ℕ) (images : List Image) (steps : List ReadyStep)
         → AreLoaded seed workers images → AreSteps images workers steps
-        → map (λ (r : Row). r.place) (run_of_seed seed workers images fuel steps).placement.mappings
+        → map (λ (r : Row). r.place) (run_of_seed seed workers images fuel steps).placement.rows
         ≡ (run_of_seed seed workers images fuel steps).placement.drawn.places }
 {}
 
 /// An address that leaked is stale once its mapping is unmapped: from then on it lies in no mapping of the run. In any
-/// later call of any module on any stack nothing lies there, and a fetch there is a fault, whatever bytes the stack and
-/// the data hold: so not at the start of the call alone. The data have as many bytes as those of the image.
+/// later call of any module on any stack nothing lies there, and at each step of the call a fetch there is a fault,
+/// whatever bytes the stack and the data hold. The data have as many bytes as those of the image.
 pub fn law_stale_addresses()
     ensures apart { (seed workers fuel : ℕ) (images : List Image) (before after : List ReadyStep)
         → AreLoaded seed workers images → AreSteps images workers (before ++ after)
-        → (old : ℕ) (gone : Row) (at : ℕ) → slice_get (run_of_seed seed workers images fuel before).placement.mappings old ≡ Some gone
+        → (old : ℕ) (gone : Row) (at : ℕ) → slice_get (run_of_seed seed workers images fuel before).placement.rows old ≡ Some gone
         → 0 < gone.unmaps → IsInside gone.place at
-        → All (λ (r : Row). r.unmaps ≡ 0 → IsInside r.place at → ⊥) (run_of_seed seed workers images fuel (before ++ after)).placement.mappings }
+        → All (λ (r : Row). r.unmaps ≡ 0 → IsInside r.place at → ⊥) (run_of_seed seed workers images fuel (before ++ after)).placement.rows }
     ensures lengths { (seed workers fuel : ℕ) (images : List Image) (steps : List ReadyStep)
         → AreLoaded seed workers images → AreSteps images workers steps
         → All (λ (m : ModuleState). HasData m.image m.book.writable m.book.fixed) (run_of_seed seed workers images fuel steps).modules }
     ensures nothing { (seed workers fuel : ℕ) (images : List Image) (before after : List ReadyStep)
         → AreLoaded seed workers images → AreSteps images workers (before ++ after)
-        → (old : ℕ) (gone : Row) (at : ℕ) → slice_get (run_of_seed seed workers images fuel before).placement.mappings old ≡ Some gone
+        → (old : ℕ) (gone : Row) (at : ℕ) → slice_get (run_of_seed seed workers images fuel before).placement.rows old ≡ Some gone
         → 0 < gone.unmaps → IsInside gone.place at
-        → All (λ (m : ModuleState). All (λ stack. InEachMemory m.image m.part stack (λ memory. holding memory at ≡ None))
+        → All (λ (m : ModuleState). All (λ stack. InEachMemory m.image m.movable stack (λ memory. holding memory at ≡ None))
         (run_of_seed seed workers images fuel (before ++ after)).stacks) (run_of_seed seed workers images fuel (before ++ after)).modules }
     ensures fault { (seed workers fuel : ℕ) (images : List Image) (before after : List ReadyStep)
         → AreLoaded seed workers images → AreSteps images workers (before ++ after)
-        → (old : ℕ) (gone : Row) (at : ℕ) → slice_get (run_of_seed seed workers images fuel before).placement.mappings old ≡ Some gone
+        → (old : ℕ) (gone : Row) (at : ℕ) → slice_get (run_of_seed seed workers images fuel before).placement.rows old ≡ Some gone
         → 0 < gone.unmaps → IsInside gone.place at
-        → All (λ (m : ModuleState). All (λ stack. InEachMemory m.image m.part stack (λ memory. fetched memory at ≡ Fault))
+        → All (λ (m : ModuleState). All (λ stack. InEachMemory m.image m.movable stack (IsFaultAtEachStep at))
         (run_of_seed seed workers images fuel (before ++ after)).stacks) (run_of_seed seed workers images fuel (before ++ after)).modules }
 {}

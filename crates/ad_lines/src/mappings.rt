@@ -1,14 +1,15 @@
 //! The mappings of a run, as a plain list.
 
 ghost use Rattle.std.specs.Prelude.{◌≡◌, ◌+◌, ◌<◌, ◌≤◌, [], length, map, vec_len, vec_capacity, IfOk, IfSome};
+ghost use Rattle.std.specs.List.{filter, range_with_len, zip};
 ghost use Rattle.std.specs.Option.{option_map_or};
-ghost use Rattle.ad_base.specs.Ledger.{made_place};
+ghost use Rattle.ad_base.specs.Ledger.{is_same_kind, made_place};
 ghost use Rattle.ad_base.specs.Place.{IsPlace};
 ghost use Rattle.ad_lines.specs.LineRun.{after_move, drawn_after, move_end, new_row, replaced, retired};
-ghost use Rattle.ad_lines.specs.Room.{AreNumbered, AreNumberedPlaces, IsMappingList};
-ghost use Rattle.ad_lines.specs.Opening.{opening_mapping, opening_mappings, row_of};
+ghost use Rattle.ad_lines.specs.Opening.{opening_mappings, opening_requests, row_of};
+ghost use Rattle.ad_lines.specs.Private.Places.{AreNumbered, AreNumberedPlaces, IsMappingList, stack_thing, thing_of, thing_row};
 
-use ad_base::{Kind, MAPPINGS, MoveEnd, Moved, OutOfMemory, Place, Row};
+use ad_base::{Image, Kind, MAPPINGS, MoveEnd, Moved, OutOfMemory, Place, Row};
 use ad_place::Placer;
 use std::alloc::Global;
 use std::marker::Model;
@@ -24,12 +25,12 @@ pub struct MappingList {
 
 impl Model for MappingList {
     ghost use Rattle.std.specs.Prelude.{◌-◌, vec_capacity, vec_len};
-    ghost use Rattle.ad_lines.specs.Room.{IsMappingList, RoomyPlacement};
+    ghost use Rattle.ad_lines.specs.Private.Places.{IsMappingList, PlacementWithRoom};
 
-    ghost Value = { RoomyPlacement };
+    ghost Value = { PlacementWithRoom };
 
     ghost view = { λ l. record {
-      placement = record { drawn = l.placer; moves = l.moves.items; mappings = l.rows.items };
+      placement = record { drawn = l.placer; moves = l.moves.items; rows = l.rows.items };
       room = vec_capacity l.moves - vec_len l.moves;
     } };
 
@@ -37,19 +38,22 @@ impl Model for MappingList {
 }
 
 impl MappingList {
-    /// The mappings before the first line, of so many workers, at the places that were drawn, with room for so
-    /// many moves.
+    /// The mappings before the first line, of so many workers and of modules of these images, at the places that
+    /// were drawn, with room for so many moves.
     pub fn open(
         alloc: Global,
         placer: Placer,
         workers: u64,
+        images: &[Image],
         moves: usize,
     ) -> Result<MappingList, OutOfMemory>
         requires numbered { AreNumberedPlaces placer.places }
-        ensures placement { IfOk result (λ list. list.placement ≡ record { drawn = placer; moves = []; mappings = map row_of (opening_mappings workers placer.places) }) }
+        requires each { length (opening_requests workers images.now) ≡ length placer.places }
+        ensures placement { IfOk result (λ list. list.placement ≡ record { drawn = placer; moves = []; rows = map row_of (opening_mappings workers images.now placer.places) }) }
         ensures room { IfOk result (λ list. list.room ≡ moves) }
     {
-        let rows = opening_rows(alloc, workers, placer.places())?;
+        let things = opening_things(alloc, workers, images)?;
+        let rows = opening_rows(alloc, &things, placer.places())?;
         Ok(MappingList {
             placer,
             moves: Vec::with_capacity(alloc, moves)?,
@@ -57,10 +61,23 @@ impl MappingList {
         })
     }
 
+    /// The places of the mappings of a kind, in order of number.
+    pub fn places_of_kind(&self, alloc: Global, kind: Kind) -> Result<Vec<Place>, OutOfMemory>
+        ensures { IfOk result (λ places. places.items ≡ map (λ r. r.place) (filter (λ r. is_same_kind kind r.kind) self.now.placement.rows)) }
+    {
+        Ok(
+            self.rows
+                .iter()
+                .filter(|row| is_same_kind(kind, row.kind))
+                .map(|row| row.place)
+                .collect(alloc)?,
+        )
+    }
+
     /// What came of the moves, and all mappings.
     pub fn finish(self) -> (Vec<Moved>, Vec<Row>)
         ensures moves { result.0.items ≡ self.placement.moves }
-        ensures mappings { result.1.items ≡ self.placement.mappings }
+        ensures mappings { result.1.items ≡ self.placement.rows }
     {
         (self.moves, self.rows)
     }
@@ -70,13 +87,13 @@ impl MappingList {
     #[tactic(auto, unfolding(crate::specs::LineRun::after_move))]
     pub fn replace(&mut self, line: u64, kind: Kind, who: u64, old: Place) -> MoveEnd
         requires place { IsPlace old }
-        requires mapped { old.mapping ≤ length self.old.placement.mappings }
+        requires mapped { old.mapping ≤ length self.old.placement.rows }
         requires room { 0 < self.old.room }
         ensures end { result ≡ move_end self.old.placement.drawn kind old.pages }
         ensures after { self.new.placement ≡ after_move self.old.placement line kind who old }
         ensures place { IfSome (made_place result) (λ p. IsPlace p) }
-        ensures mapped { IfSome (made_place result) (λ p. p.mapping ≤ length self.new.placement.mappings) }
-        ensures grows { length self.old.placement.mappings ≤ length self.new.placement.mappings }
+        ensures mapped { IfSome (made_place result) (λ p. p.mapping ≤ length self.new.placement.rows) }
+        ensures grows { length self.old.placement.rows ≤ length self.new.placement.rows }
         ensures room { self.new.room + 1 ≡ self.old.room }
     {
         let end = next_mapping(&mut self.placer, &mut self.rows, line, kind, who, old);
@@ -90,33 +107,69 @@ impl MappingList {
     }
 }
 
-/// A row for each of these places, of so many workers, with room for all that may be drawn.
-fn opening_rows(alloc: Global, workers: u64, places: &[Place]) -> Result<Vec<Row>, OutOfMemory>
+/// What has a place: a part of a module, or a stack.
+#[derive(Clone, Copy)]
+pub struct Thing {
+    pub kind: Kind,
+    /// The number of the module, or of the worker.
+    pub who: u64,
+}
+
+/// What has a place before the first line, of so many workers and of modules of these images, in the order in which the
+/// places were drawn.
+fn opening_things(alloc: Global, workers: u64, images: &[Image]) -> Result<Vec<Thing>, OutOfMemory>
+    ensures { IfOk result (λ things. things.items ≡ map thing_of (opening_requests workers images.now)) }
+{
+    let mut things = stack_things(alloc, workers)?;
+    for number in 0..images.len() {
+        let who = number as u64;
+        things.push(Thing {
+            kind: Kind::Fixed,
+            who,
+        })?;
+        things.push(Thing {
+            kind: Kind::Code,
+            who,
+        })?;
+    }
+    Ok(things)
+}
+
+/// The stacks of so many workers.
+fn stack_things(alloc: Global, workers: u64) -> Result<Vec<Thing>, OutOfMemory>
+    ensures { IfOk result (λ things. things.items ≡ map stack_thing (range_with_len 0 workers)) }
+{
+    let mut things = Vec::new(alloc);
+    for who in 0..workers {
+        things.push(Thing {
+            kind: Kind::Stack,
+            who,
+        })?;
+    }
+    Ok(things)
+}
+
+/// A row for each of these things at its place, with room for all places that may be drawn.
+fn opening_rows(alloc: Global, things: &[Thing], places: &[Place]) -> Result<Vec<Row>, OutOfMemory>
     requires { length places.now ≤ MAPPINGS }
-    ensures rows { IfOk result (λ rows. rows.items ≡ map row_of (opening_mappings workers places.now)) }
+    ensures rows { IfOk result (λ rows. rows.items ≡ map thing_row (zip things.now places.now)) }
     ensures room { IfOk result (λ rows. MAPPINGS ≤ vec_capacity rows) }
 {
     let mut rows = Vec::with_capacity(alloc, MAPPINGS as usize)?;
-    for place in places {
-        rows.push_reserved(opening_row(workers, rows.len() as u64, *place));
+    for (thing, place) in things.iter().zip(places) {
+        rows.push_reserved(new_row(thing.kind, thing.who, *place));
     }
     Ok(rows)
 }
 
-/// The row of the place of this number, counted from 0, of those that are drawn before the first line.
-fn opening_row(workers: u64, number: u64, place: Place) -> Row
-    ensures { result ≡ row_of (opening_mapping workers (number, place)) }
+/// Tests whether two kinds are the same.
+fn is_same_kind(a: Kind, b: Kind) -> bool
+    ensures { result ≡ is_same_kind a b }
 {
-    if number < workers {
-        return new_row(Kind::Stack, number, place);
-    }
-    let part = number - workers;
-    let kind = if part % 2 == 0 {
-        Kind::Fixed
-    } else {
-        Kind::Code
-    };
-    new_row(kind, part / 2, place)
+    matches!(
+        (a, b),
+        (Kind::Code, Kind::Code) | (Kind::Fixed, Kind::Fixed) | (Kind::Stack, Kind::Stack)
+    )
 }
 
 /// Draws the next place, if a mapping number is left, maps it, and unmaps the old one.

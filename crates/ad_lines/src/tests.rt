@@ -31,13 +31,13 @@ const FIRST: [u32; 4] = [0x00b5_0533, RETURN, 0x0000_0517, RETURN];
 /// A function that returns its own address, and one that returns the end of its stack: `addi a0, sp, 0`.
 const SECOND: [u32; 4] = [0x0000_0517, RETURN, 0x0001_0513, RETURN];
 
-/// A text page that begins with these words, and the stub page.
-fn code(alloc: Global, words: [u32; 4]) -> Result<Sequence<u8>, OutOfMemory>
-    ensures { IfOk result (λ code. length code ≡ 8192) }
+/// The bytes of these words.
+fn text(alloc: Global, words: [u32; 4]) -> Result<Vec<u8>, OutOfMemory>
+    ensures { IfOk result (λ text. length text.items ≡ 16) }
 {
-    let mut code = Vec::from_elem(alloc, 0, 8192)?;
-    LittleEndian::write_u32_into(&words, &mut code[..16]);
-    Ok(Sequence::of(code))
+    let mut text = Vec::from_elem(alloc, 0, 16)?;
+    LittleEndian::write_u32_into(&words, &mut text);
+    Ok(text)
 }
 
 /// The exports `a` of the first word, and `b` of the third.
@@ -68,23 +68,7 @@ fn image(alloc: Global, fixed: Place, words: [u32; 4]) -> Result<Image, OutOfMem
     ensures fixed_pages { IfOk result (λ i. fixed_pages i ≡ 2) }
     ensures movable_pages { IfOk result (λ i. movable_pages i ≡ 4) }
 {
-    let fixed_code = Vec::from_elem(alloc, 0, 4096)?;
-    Ok(Image {
-        text_pages: 1,
-        read_pages: 0,
-        data_pages: 0,
-        code: code(alloc, words)?,
-        cells: Sequence::of(Vec::new(alloc)),
-        writable: Sequence::of(Vec::new(alloc)),
-        table: Sequence::of(Vec::new(alloc)),
-        fixed_text_pages: 0,
-        fixed_read_pages: 0,
-        fixed_data_pages: 0,
-        fixed_code: Sequence::of(fixed_code),
-        fixed_data: Sequence::of(Vec::new(alloc)),
-        fixed,
-        exports: exports(alloc)?,
-    })
+    Image::of_text(alloc, text(alloc, words)?, exports(alloc)?, fixed)
 }
 
 /// Draws the places of a module of these words, and makes its image.
@@ -253,7 +237,7 @@ fn two_modules_and_two_workers(rt: HostRuntime) -> Result<(), Fail> {
     assert_eq!(rt; end.books.len(), 2);
     expect_calls(&rt, end.books[0].history.as_slice(), &FIRST_CALLS);
     expect_calls(&rt, end.books[1].history.as_slice(), &SECOND_CALLS);
-    expect_rows(&rt, &end.mappings, &ROWS);
+    expect_rows(&rt, &end.rows, &ROWS);
     assert_eq!(rt; end.moves.len(), 2);
     for (moved, (line, kind, number)) in end
         .moves

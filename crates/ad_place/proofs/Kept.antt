@@ -5,7 +5,7 @@ use Rattle.ad_base.specs.declared.layout.TheConstants.{MAPPINGS, REGION_PAGES}
 use Rattle.ad_base.specs.declared.ledger.Kind.{Kind}
 use Rattle.ad_base.specs.declared.place.Place.{Place}
 use Rattle.ad_place.specs.Choice.{first_unused, next_place, random_word, Drawn}
-use Rattle.ad_place.specs.Kept.{before_word, IsKept}
+use Rattle.ad_place.specs.Private.Kept.{before_word, IsKept}
 use Rattle.ad_place.proofs.Places.{search_finds}
 
 -- what one call of the generator gives, and the generator after it

@@ -1,3 +1,3 @@
 pub mod Choice
-pub mod Kept
 pub mod ChoiceLaws
+pub mod Private

@@ -33,7 +33,7 @@ impl Model for Placer {
     ghost use Rattle.std.specs.Prelude.{◌≤◌, vec_capacity};
     ghost use Rattle.ad_base.specs.declared.layout.TheConstants.{MAPPINGS};
     ghost use Rattle.ad_place.specs.Choice.{Drawn};
-    ghost use Rattle.ad_place.specs.Kept.{IsKept};
+    ghost use Rattle.ad_place.specs.Private.Kept.{IsKept};
 
     ghost Value = { Drawn };
 

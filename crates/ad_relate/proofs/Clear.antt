@@ -10,11 +10,14 @@ use Rattle.ad_core.specs.Plain as machine
 use Rattle.ad_core.specs.Image.{segments_of}
 use Rattle.ad_core.specs.Segments.{bytes_of_role, is_data, is_fixed_data}
 use Rattle.ad_core.specs.Turn.{plain}
-use Rattle.ad_symbolic.specs.Value.{At, Byte, Num, Number, OfAddress, Value}
+use Rattle.ad_isa.specs.Step.{Aborts, Ends, Finish, Returns}
+use Rattle.ad_symbolic.specs.Value.{Byte, Number, OfAddress}
+use Rattle.ad_symbolic.specs.declared.value.Value.TheVariants.{At, Num}
+use Rattle.ad_symbolic.specs.declared.value.Value.{Value}
 use Rattle.ad_symbolic.specs.AddressSpace.{AddressSpace, numbers_of}
-use Rattle.ad_symbolic.specs.Machine.{Finish, Memory, Outcome, Returns, Stops, fresh_stack}
+use Rattle.ad_symbolic.specs.Machine.{Memory, SymbolicOutcome, fresh_stack}
 use Rattle.ad_symbolic.specs.Replay.{Asked, end_of, is_number, is_number_byte, is_number_end, keeps_none, kept_of, number_or_zero, run_of}
-use Rattle.ad_relate.specs.Machines.{Agrees, end_at}
+use Rattle.ad_relate.specs.Machines.{Agrees, finish_at}
 use Rattle.ad_relate.specs.Stands.{DataFits, Fits, IsApart, Places, byte_at, number_at, segments_at}
 use Rattle.ad_relate.proofs.Parts.{bytes-at, zeros-at}
 use Rattle.ad_relate.proofs.Runs.{call-outcome}
@@ -36,10 +39,12 @@ notes-are ps [] h = refl
 notes-are ps (Num n ∷ vs) h = ap (λ xs. n ∷ xs) (notes-are ps vs h)
 notes-are ps (At p o ∷ vs) h = absurd cc
 
-end-is : (ps : Places) (f : Finish) → is_number_end f ≡ true → end_at ps f ≡ end_of f
+end-is : (ps : Places) (f : Finish Value) → is_number_end f ≡ true → machine.end_of (finish_at ps f) ≡ end_of f
 end-is ps (Returns (Num n)) h = refl
 end-is ps (Returns (At p o)) h = absurd cc
-end-is ps (Stops end) h = refl
+end-is ps (Aborts (Num n)) h = refl
+end-is ps (Aborts (At p o)) h = absurd cc
+end-is ps (Ends end) h = refl
 
 both-true : (a b : Bool) → a && b ≡ true → (a ≡ true) × (b ≡ true)
 both-true true b h = (refl, h)
@@ -56,7 +61,7 @@ space-fits i book fits = record {
   stack = length-replicate (STACK_PAGES * PAGE_BYTES) (Number 0);
 }
 
-pub agrees : (i : Image) (ps : Places) (fuel : ℕ) (book : Contents) (call : Asked) (o : Outcome) → IsApart i ps → DataFits i book → call.offset < 2 ^ 64 → run_of i fuel (kept_of book) call ≡ Ok o → keeps_none o ≡ true → Agrees o (plain i fuel book ps.movable ps.stack call.offset call.args)
+pub agrees : (i : Image) (ps : Places) (fuel : ℕ) (book : Contents) (call : Asked) (o : SymbolicOutcome) → IsApart i ps → DataFits i book → call.offset < 2 ^ 64 → run_of i fuel (kept_of book) call ≡ Ok o → keeps_none o ≡ true → Agrees o (plain i fuel book ps.movable ps.stack call.offset call.args)
 agrees i ps fuel book call o apart fits below ran none =
     let m : Memory = record { space = space_of i book; notes = []; queue = map Num book.device } in
     let c = call-outcome ps fuel call.offset call.args m o apart (space-fits i book fits) below ran in

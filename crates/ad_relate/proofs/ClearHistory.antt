@@ -15,12 +15,12 @@ use Rattle.ad_core.specs.Plain.{at_start}
 use Rattle.ad_core.specs.Segments.{is_data, is_fixed_data}
 use Rattle.ad_core.specs.Turn.{AreTurns, IsLawful, IsTurn, fixed_data_of, opening_contents, plain, reached, writable_of, export_offset}
 use Rattle.ad_core.proofs.Sizes.{length-bytes_of_role, shaped, shapes}
-use Rattle.ad_symbolic.specs.Value.{Num}
+use Rattle.ad_symbolic.specs.declared.value.Value.TheVariants.{Num}
 use Rattle.ad_symbolic.specs.AddressSpace.{numbers_of}
-use Rattle.ad_symbolic.specs.Machine.{Outcome, Unclear}
+use Rattle.ad_symbolic.specs.Machine.{SymbolicOutcome, Unclear}
 use Rattle.ad_symbolic.specs.Replay.{Answer, Clear, Keeps, Kept, answer_of, answers_from, clear_calls, end_of, keeps_none, kept_of, left_by, number_or_zero, replay, run_of}
 use Rattle.ad_relate.specs.Stands.{DataFits, IsApart}
-use Rattle.ad_relate.specs.ClearHistory.{AreOffsets, ArePlacedApart, RepliesAsReplayed, asked_of, places_of}
+use Rattle.ad_relate.specs.ClearHistory.{AreOffsets, ArePlacedApart, RepliesAsReplayed, asked_of, entry_places}
 use Rattle.ad_relate.proofs.Clear.{agrees}
 
 -- what holds of all holds of the one at a place
@@ -51,18 +51,18 @@ module _ (i : Image) (fuel : ℕ) (offsets : AreOffsets i) where
     fits : DataFits i book
 
   -- what a clear call of the symbolic machine says of an entry, and what it leaves
-  record IsAnswered (e : Entry) (after : Contents) (o : Outcome) : Type 0 where
+  record IsAnswered (e : Entry) (after : Contents) (o : SymbolicOutcome) : Type 0 where
     end : e.end ≡ end_of o.finish
     notes : e.notes ≡ map number_or_zero o.memory.notes
     left : IsKept (record { writable = o.memory.space.writable; fixed = o.memory.space.fixed; queue = o.memory.queue }) after
 
-  answered : (k : Kept) (before after : Contents) (e : Entry) (o : Outcome) → IsKept k before → IsTurn i fuel before e after → IsApart i (places_of e) → run_of i fuel k (asked_of i e) ≡ Ok o → keeps_none o ≡ true → IsAnswered e after o
+  answered : (k : Kept) (before after : Contents) (e : Entry) (o : SymbolicOutcome) → IsKept k before → IsTurn i fuel before e after → IsApart i (entry_places e) → run_of i fuel k (asked_of i e) ≡ Ok o → keeps_none o ≡ true → IsAnswered e after o
   answered k before after e o kept turn apart ran none =
       let offset = turn.export.offset in
       let there = offset-there i e.export turn.export turn.exists in
       let below : export_offset i e.export < 2 ^ 64 = subst (λ n. n < 2 ^ 64) (sym there) (all-there (λ (x : Export). x.offset < 2 ^ 64) i.exports e.export turn.export offsets turn.exists) in
       let from : run_of i fuel (kept_of before) (asked_of i e) ≡ Ok o = ap (λ x. run_of i fuel x (asked_of i e)) (sym kept.same) ∙ ran in
-      let c = agrees i (places_of e) fuel before (asked_of i e) o apart kept.fits below from none in
+      let c = agrees i (entry_places e) fuel before (asked_of i e) o apart kept.fits below from none in
       let same : plain i fuel before e.under e.stack (export_offset i e.export) e.args ≡ plain i fuel before e.under e.stack offset e.args =
       ap (λ n. plain i fuel before e.under e.stack n e.args) there in
       let written = c.writable ∙ ap (λ p. numbers_of (writable_of p)) same ∙ ap numbers_of (sym turn.writable) in
@@ -89,13 +89,13 @@ module _ (i : Image) (fuel : ℕ) (offsets : AreOffsets i) where
   Replied k es = (n : ℕ) (e : Entry) → n < clear_calls (said (Some k) es) → slice_get es n ≡ Some e → slice_get (said (Some k) es) n ≡ Some (Clear e.end e.notes)
 
   -- the answer for the first call and what it leaves, by whether it keeps an address
-  answer_by : Bool → Outcome → Answer
+  answer_by : Bool → SymbolicOutcome → Answer
   answer_by none o = if none then Clear (end_of o.finish) (map number_or_zero o.memory.notes) else Keeps
 
-  left_by_none : Bool → Outcome → Option Kept
+  left_by_none : Bool → SymbolicOutcome → Option Kept
   left_by_none none o = if none then Some (record { writable = o.memory.space.writable; fixed = o.memory.space.fixed; queue = o.memory.queue }) else None
 
-  by_keeping : (x : Entry) (xs : List Entry) (next : Contents) (o : Outcome) (none : Bool) → (none ≡ true → IsAnswered x next o) → ((k : Kept) → IsKept k next → Replied k xs) → (n : ℕ) (e : Entry) → n < clear_calls (answer_by none o ∷ said (left_by_none none o) xs) → slice_get (x ∷ xs) n ≡ Some e → slice_get (answer_by none o ∷ said (left_by_none none o) xs) n ≡ Some (Clear e.end e.notes)
+  by_keeping : (x : Entry) (xs : List Entry) (next : Contents) (o : SymbolicOutcome) (none : Bool) → (none ≡ true → IsAnswered x next o) → ((k : Kept) → IsKept k next → Replied k xs) → (n : ℕ) (e : Entry) → n < clear_calls (answer_by none o ∷ said (left_by_none none o) xs) → slice_get (x ∷ xs) n ≡ Some e → slice_get (answer_by none o ∷ said (left_by_none none o) xs) n ≡ Some (Clear e.end e.notes)
   unfolding said Replied answer_by left_by_none
   by_keeping x xs next o false is rest n e less at = absurd (omega arith)
   by_keeping x xs next o true is rest zero e less at =
@@ -104,7 +104,7 @@ module _ (i : Image) (fuel : ℕ) (offsets : AreOffsets i) where
       (λ j. Some (Clear (sym a.end j) (sym a.notes j))) ∙ ap (λ (y : Entry). Some (Clear y.end y.notes)) same
   by_keeping x xs next o true is rest (suc n) e less at = rest _ (is refl).left n e (omega arith) at
 
-  by_run : (x : Entry) (xs : List Entry) (next : Contents) (ran : Result Outcome Unclear) → ((o : Outcome) → ran ≡ Ok o → keeps_none o ≡ true → IsAnswered x next o) → ((k : Kept) → IsKept k next → Replied k xs) → (n : ℕ) (e : Entry) → n < clear_calls (answer_of ran ∷ said (left_by ran) xs) → slice_get (x ∷ xs) n ≡ Some e → slice_get (answer_of ran ∷ said (left_by ran) xs) n ≡ Some (Clear e.end e.notes)
+  by_run : (x : Entry) (xs : List Entry) (next : Contents) (ran : Result SymbolicOutcome Unclear) → ((o : SymbolicOutcome) → ran ≡ Ok o → keeps_none o ≡ true → IsAnswered x next o) → ((k : Kept) → IsKept k next → Replied k xs) → (n : ℕ) (e : Entry) → n < clear_calls (answer_of ran ∷ said (left_by ran) xs) → slice_get (x ∷ xs) n ≡ Some e → slice_get (answer_of ran ∷ said (left_by ran) xs) n ≡ Some (Clear e.end e.notes)
   unfolding said Replied answer_by left_by_none
   by_run x xs next (Err u) is rest n e less at = absurd (omega arith)
   by_run x xs next (Ok o) is rest n e less at = by_keeping x xs next o (keeps_none o) (is o refl) rest n e less at
@@ -113,7 +113,7 @@ module _ (i : Image) (fuel : ℕ) (offsets : AreOffsets i) where
   unfolding said Replied
   replied k [] before after kept turns apart n e less at = absurd cc
   replied k (x ∷ xs) before after kept turns apart n e less at =
-      let P : Entry → Type 0 = λ y. IsApart i (places_of y) in
+      let P : Entry → Type 0 = λ y. IsApart i (entry_places y) in
       by_run x xs turns.0 (run_of i fuel k (asked_of i x)) (λ o. answered k before turns.0 x o kept turns.1 (All-head P x xs apart))
       (λ left l. replied left xs turns.0 after l turns.2 (All-tail P x xs apart)) n e less at
 

@@ -15,8 +15,13 @@ use Rattle.ad_core.specs.declared.bus.Fetched.{Fetched}
 use Rattle.ad_core.specs.declared.bus.Fetched.TheVariants.{Word}
 use Rattle.ad_core.specs.Plain.{word_or_end}
 use Rattle.ad_core.specs.Segments.{Segment, fetched, holding, holds, in_region_1, word_in}
-use Rattle.ad_symbolic.specs.Value.{Address, At, Byte, Movable, Num, Number, OfAddress, Reason, Stack, Value, offset_of}
-use Rattle.ad_symbolic.specs.AddressSpace.{AddressSpace, SymbolicPiece, all_numbers, fetched_value, fixed_part, is_beside, is_outside, is_within, movable_part, stack_part, word_from, word_of_pieces}
+use Rattle.ad_symbolic.specs.Value.{is_outside, Byte, Number, OfAddress, offset_of}
+use Rattle.ad_symbolic.specs.declared.value.Reason.TheVariants.{Address}
+use Rattle.ad_symbolic.specs.declared.value.Value.TheVariants.{At, Num}
+use Rattle.ad_symbolic.specs.declared.value.Part.TheVariants.{Movable, Stack}
+use Rattle.ad_symbolic.specs.declared.value.Reason.{Reason}
+use Rattle.ad_symbolic.specs.declared.value.Value.{Value}
+use Rattle.ad_symbolic.specs.AddressSpace.{AddressSpace, SymbolicPiece, all_numbers, fetched_value, fixed_part, is_beside, is_within, movable_part, stack_part, word_from, word_of_pieces}
 use Rattle.ad_relate.specs.Stands.{Fits, IsApart, Places, byte_at, number_at, segments_at}
 use Rattle.ad_relate.proofs.Apart.{IsAlone, IsIn, Misses, fixed-alone, holding-missed, holding-none, movable-alone, segments_from, stack-alone}
 

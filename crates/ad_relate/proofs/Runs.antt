@@ -4,19 +4,23 @@ use Rattle.std.specs.Prelude.{◌==◌, if◌then◌else◌}
 use Rattle.std.proofs.Math.ListN.{get_or-map}
 use Rattle.std.proofs.lemmas.Bool.{eq-eqb, eqb-true, le-ltb, lt-leb, or_from}
 use Rattle.std.proofs.lemmas.List.{map-append, take-map}
-use Rattle.ad_base.specs.declared.end.End.{End}
 use Rattle.ad_base.specs.declared.end.End.TheVariants as ends
 use Rattle.ad_base.specs.declared.image.Image.{Image}
 use Rattle.ad_base.specs.declared.layout.TheConstants.{FETCH_BYTES, GATE, PAGE_BYTES, STACK_PAGES}
 use Rattle.ad_base.specs.Place.{base_of}
 use Rattle.ad_core.specs.Plain as plain
 use Rattle.ad_core.specs.Segments.{Access, accesses_of_fetch}
-use Rattle.ad_isa.specs.Step.{State, Next, Goes, Ends}
+use Rattle.ad_isa.specs.Step.{Ends, Finish, Finishes, Goes, Next, Returns, State, step}
 use Rattle.ad_symbolic.specs.AddressSpace.{AddressSpace, fetched_value, part_bytes}
 use Rattle.ad_symbolic.specs.Machine as symbolic
-use Rattle.ad_symbolic.specs.Machine.{Memory, Run, Stops, Returns, found, symbolic_step, unless_at_gate, spent}
-use Rattle.ad_symbolic.specs.Value.{Address, At, Movable, Num, Part, Reason, Stack, Value}
-use Rattle.ad_relate.specs.Machines.{IsReady, StandsFor, memory_at, next_at, state_at}
+use Rattle.ad_symbolic.specs.Machine.{Memory, Run, symbolic_step, unless_at_gate, spent}
+use Rattle.ad_symbolic.specs.declared.value.Reason.TheVariants.{Address}
+use Rattle.ad_symbolic.specs.declared.value.Value.TheVariants.{At, Num}
+use Rattle.ad_symbolic.specs.declared.value.Part.TheVariants.{Movable, Stack}
+use Rattle.ad_symbolic.specs.declared.value.Part.{Part}
+use Rattle.ad_symbolic.specs.declared.value.Reason.{Reason}
+use Rattle.ad_symbolic.specs.declared.value.Value.{Value}
+use Rattle.ad_relate.specs.Machines.{IsReady, StandsFor, finish_at, memory_at, next_at, state_at}
 use Rattle.ad_relate.specs.Stands.{Fits, IsApart, Places, base_at, number_at}
 use Rattle.ad_relate.proofs.Values.{alignment, numbers-at}
 use Rattle.ad_relate.proofs.Steps.{step-leaves, step-stands}
@@ -46,7 +50,7 @@ gate-unclear space ps p o apart below aligned gate =
     rw (a, inside, beside) refl
 
 -- where a run has an outcome, the plain machine's one is what it stands for
-abbrev RunStands : Places → Run → plain.Outcome → Type 0
+abbrev RunStands : Places → Run → plain.PlainOutcome → Type 0
 RunStands ps (Ok o) other = StandsFor ps o other
 RunStands ps (Err u) other = Unit {0}
 
@@ -55,13 +59,13 @@ abbrev IsUnclear : Run → Type 0
 IsUnclear (Ok o) = ⊥
 IsUnclear (Err u) = Unit {0}
 
-unclear-stands : (ps : Places) (r : Run) (other : plain.Outcome) → IsUnclear r → RunStands ps r other
+unclear-stands : (ps : Places) (r : Run) (other : plain.PlainOutcome) → IsUnclear r → RunStands ps r other
 unclear-stands ps (Ok o) other none = absurd none
 unclear-stands ps (Err u) other none = tt
 
 -- a run that ends with this memory
-ended : (ps : Places) (accesses : List Access) (m : Memory) (end : End) → StandsFor ps (record { finish = Stops end; memory = m }) (record { end = end; memory = memory_at ps accesses m })
-ended ps accesses m end = record { end = refl; segments = refl; notes = refl; queue = refl }
+ended : (ps : Places) (accesses : List Access) (m : Memory) (finish : Finish Value) → StandsFor ps (record { finish = finish; memory = m }) (record { end = plain.end_of (finish_at ps finish); memory = memory_at ps accesses m })
+ended ps accesses m finish = record { end = refl; segments = refl; notes = refl; queue = refl }
 
 -- a run that has reached the gate
 returned : (ps : Places) (accesses : List Access) (m : Memory) (xs : List Value)
@@ -69,17 +73,17 @@ returned : (ps : Places) (accesses : List Access) (m : Memory) (xs : List Value)
 returned ps accesses m xs = record { end = ap ends.Returned (get_or-map (number_at ps) xs 10 (Num 0)); segments = refl; notes = refl; queue = refl }
 
 -- choices by one test
-run-if : (ps : Places) (b : Bool) (x y : Run) (v w : plain.Outcome) → (b ≡ true → RunStands ps x v) → (b ≡ false → RunStands ps y w) → RunStands ps (if b then x else y) (if b then v else w)
+run-if : (ps : Places) (b : Bool) (x y : Run) (v w : plain.PlainOutcome) → (b ≡ true → RunStands ps x v) → (b ≡ false → RunStands ps y w) → RunStands ps (if b then x else y) (if b then v else w)
 run-if ps true x y v w h k = h refl
 run-if ps false x y v w h k = k refl
 
 -- where the symbolic machine's choice is made already
-run-else : (ps : Places) (b : Bool) (x : Run) (v w : plain.Outcome) → (b ≡ true → IsUnclear x) → RunStands ps x w → RunStands ps x (if b then v else w)
+run-else : (ps : Places) (b : Bool) (x : Run) (v w : plain.PlainOutcome) → (b ≡ true → IsUnclear x) → RunStands ps x w → RunStands ps x (if b then v else w)
 run-else ps true x v w h k = unclear-stands ps x v (h refl)
 run-else ps false x v w h k = k
 
 -- the gate is looked for in both machines
-gated : (ps : Places) (accesses : List Access) (xs : List Value) (pc : Value) (m : Memory) (otherwise : Run) (other : plain.Outcome)
+gated : (ps : Places) (accesses : List Access) (xs : List Value) (pc : Value) (m : Memory) (otherwise : Run) (other : plain.PlainOutcome)
     → IsReady ps (record { registers = xs; pc = pc }) m
     → ((p : Part) (o : ℕ) → pc ≡ At p o → fetched_value m.space (At p o) ≡ Err Address → IsUnclear otherwise)
     → RunStands ps otherwise other
@@ -91,10 +95,10 @@ gated ps accesses xs (At p o) m otherwise other ready far h =
 -- where the fuel is spent
 spent-stands : (ps : Places) (accesses : List Access) (made : ℕ) (xs : List Value) (pc : Value) (m : Memory)
     → RunStands ps (spent made (record { registers = xs; pc = pc }) m) (record { end = ends.Fuel; memory = memory_at ps accesses m })
-spent-stands ps accesses made xs (Num n) m = ended ps accesses m ends.Fuel
+spent-stands ps accesses made xs (Num n) m = ended ps accesses m (Ends ends.Fuel)
 spent-stands ps accesses made xs (At p o) m =
-    elim (fetched_value m.space (At p o)) as (λ found. RunStands ps (elim found [ Ok x ↦ Ok (record { finish = Stops ends.Fuel; memory = m }) | Err reason ↦ Err (record { reason = Address; step = made }) ]) (record { end = ends.Fuel; memory = memory_at ps accesses m })) [
-      | Ok found ↦ ended ps accesses m ends.Fuel
+    elim (fetched_value m.space (At p o)) as (λ found. RunStands ps (elim found [ Ok x ↦ Ok (record { finish = Ends ends.Fuel; memory = m }) | Err reason ↦ Err (record { reason = Address; step = made }) ]) (record { end = ends.Fuel; memory = memory_at ps accesses m })) [
+      | Ok found ↦ ended ps accesses m (Ends ends.Fuel)
       | Err reason ↦ tt
     ]
 
@@ -103,17 +107,17 @@ spent-unclear made xs pc m p o at e = rw (at, e) tt
 
 step-unclear : (made : ℕ) (rest : State Value → Memory → Run) (xs : List Value) (pc : Value) (m : Memory) (p : Part) (o : ℕ) → pc ≡ At p o → fetched_value m.space (At p o) ≡ Err Address
     → IsUnclear (symbolic.continue made rest (symbolic_step (record { registers = xs; pc = pc }) m))
-unfolding symbolic_step
+unfolding symbolic_step step
 step-unclear made rest xs pc m p o at e = rw (at, e) tt
 
 -- what follows a step
-continue-stands : (ps : Places) (accesses : List Access) (made : ℕ) (rest : State Value → Memory → Run) (goes : State ℕ → plain.Memory → plain.Outcome) (step : Result (Next Value Memory) Reason) (next : Next ℕ plain.Memory)
+continue-stands : (ps : Places) (accesses : List Access) (made : ℕ) (rest : State Value → Memory → Run) (goes : State ℕ → plain.Memory → plain.PlainOutcome) (step : Result (Next Value Memory) Reason) (next : Next ℕ plain.Memory)
     → ((n : Next Value Memory) → step ≡ Ok n → next ≡ next_at ps accesses n)
     → ((h : State Value) (m : Memory) → step ≡ Ok (Goes h m) → RunStands ps (rest h m) (goes (state_at ps h) (memory_at ps accesses m)))
     → RunStands ps (symbolic.continue made rest step) (plain.continue goes next)
 continue-stands ps accesses made rest goes (Ok (Goes h m)) next stands more = subst (λ n. RunStands ps (rest h m) (plain.continue goes n)) (sym (stands (Goes h m) refl)) (more h m refl)
-continue-stands ps accesses made rest goes (Ok (Ends end m)) next stands more =
-    subst (λ n. StandsFor ps (record { finish = Stops end; memory = m }) (plain.continue goes n)) (sym (stands (Ends end m) refl)) (ended ps accesses m end)
+continue-stands ps accesses made rest goes (Ok (Finishes finish m)) next stands more =
+    subst (λ n. StandsFor ps (record { finish = finish; memory = m }) (plain.continue goes n)) (sym (stands (Finishes finish m) refl)) (ended ps accesses m finish)
 continue-stands ps accesses made rest goes (Err reason) next stands more = tt
 
 -- the registers at the start
@@ -135,14 +139,14 @@ stack-end i ps apart = let to = base-to i ps Stack apart in omega arith
 
 module _ (ps : Places) where
   run-stands : (fuel made : ℕ) (accesses : List Access) (h : State Value) (m : Memory) → IsReady ps h m
-      → RunStands ps (symbolic.run fuel made h m) (plain.run fuel (state_at ps h) (memory_at ps accesses m))
-  unfolding symbolic.run plain.run
+      → RunStands ps (symbolic.symbolic_run fuel made h m) (plain.plain_run fuel (state_at ps h) (memory_at ps accesses m))
+  unfolding symbolic.symbolic_run plain.plain_run
   run-stands zero made accesses h m ready =
       gated ps accesses h.registers h.pc m (spent made h m) _ ready (spent-unclear made h.registers h.pc m) (spent-stands ps accesses made h.registers h.pc m)
   run-stands (suc fuel) made accesses h m ready =
       let after = accesses ++ accesses_of_fetch (number_at ps h.pc) in
-      gated ps accesses h.registers h.pc m (symbolic.continue made (symbolic.run fuel (made + 1)) (symbolic_step h m)) _ ready (step-unclear made (symbolic.run fuel (made + 1)) h.registers h.pc m)
-      (continue-stands ps after made (symbolic.run fuel (made + 1)) (plain.run fuel) (symbolic_step h m) (plain.plain_step (state_at ps h) (memory_at ps accesses m))
+      gated ps accesses h.registers h.pc m (symbolic.continue made (symbolic.symbolic_run fuel (made + 1)) (symbolic_step h m)) _ ready (step-unclear made (symbolic.symbolic_run fuel (made + 1)) h.registers h.pc m)
+      (continue-stands ps after made (symbolic.symbolic_run fuel (made + 1)) (plain.plain_run fuel) (symbolic_step h m) (plain.plain_step (state_at ps h) (memory_at ps accesses m))
       (λ n e. step-stands ps h m accesses n ready e)
       (λ next memory e. run-stands fuel (made + 1) after next memory (step-leaves ps h next m memory ready e)))
 
@@ -154,23 +158,23 @@ module _ (ps : Places) where
       let sp = base_of ps.stack + STACK_PAGES * PAGE_BYTES in
       let entry = number_at ps (At Movable offset) in
       let start : State Value = record { registers = symbolic.first_values args; pc = At Movable offset } in
-      let made = λ (h : State ℕ). plain.run fuel h (memory_at ps [] m) in
+      let made = λ (h : State ℕ). plain.plain_run fuel h (memory_at ps [] m) in
       let same = first-at ps args sp (stack-end m.space.image ps apart) in
-      let misaligned : plain.Outcome = record { end = ends.Misaligned; memory = memory_at ps [] m } in
+      let misaligned : plain.PlainOutcome = record { end = ends.Misaligned; memory = memory_at ps [] m } in
       let runs = λ (e : (offset % FETCH_BYTES == 0) ≡ true).
       let ready : IsReady ps start m = record { apart = apart; fits = fits; aligned = eqb-true (offset % FETCH_BYTES) 0 e; below = below } in
-      subst (λ xs. RunStands ps (symbolic.run fuel 0 start m) (made (record { registers = xs; pc = entry }))) same (run-stands fuel 0 [] start m ready) in
-      subst (λ n. RunStands ps (if offset % FETCH_BYTES == 0 then symbolic.run fuel 0 start m else Ok (record { finish = Stops ends.Misaligned; memory = m }))
+      subst (λ xs. RunStands ps (symbolic.symbolic_run fuel 0 start m) (made (record { registers = xs; pc = entry }))) same (run-stands fuel 0 [] start m ready) in
+      subst (λ n. RunStands ps (if offset % FETCH_BYTES == 0 then symbolic.symbolic_run fuel 0 start m else Ok (record { finish = Ends ends.Misaligned; memory = m }))
       (if n == 0 then made (record { registers = plain.first_registers args sp; pc = entry }) else misaligned)) (sym (alignment ps (At Movable offset)))
-      (run-if ps (offset % FETCH_BYTES == 0) _ _ _ _ runs (λ e. ended ps [] m ends.Misaligned))
+      (run-if ps (offset % FETCH_BYTES == 0) _ _ _ _ runs (λ e. ended ps [] m (Ends ends.Misaligned)))
 
   -- a run's outcome
-  pub run-outcome : (fuel made : ℕ) (accesses : List Access) (h : State Value) (m : Memory) (o : symbolic.Outcome) → IsReady ps h m → symbolic.run fuel made h m ≡ Ok o
-      → StandsFor ps o (plain.run fuel (state_at ps h) (memory_at ps accesses m))
-  run-outcome fuel made accesses h m o ready e = subst (λ r. RunStands ps r (plain.run fuel (state_at ps h) (memory_at ps accesses m))) e (run-stands fuel made accesses h m ready)
+  pub run-outcome : (fuel made : ℕ) (accesses : List Access) (h : State Value) (m : Memory) (o : symbolic.SymbolicOutcome) → IsReady ps h m → symbolic.symbolic_run fuel made h m ≡ Ok o
+      → StandsFor ps o (plain.plain_run fuel (state_at ps h) (memory_at ps accesses m))
+  run-outcome fuel made accesses h m o ready e = subst (λ r. RunStands ps r (plain.plain_run fuel (state_at ps h) (memory_at ps accesses m))) e (run-stands fuel made accesses h m ready)
 
   -- a call's outcome
-  pub call-outcome : (fuel offset : ℕ) (args : List ℕ) (m : Memory) (o : symbolic.Outcome) → IsApart m.space.image ps → Fits m.space → offset < 2 ^ 64
+  pub call-outcome : (fuel offset : ℕ) (args : List ℕ) (m : Memory) (o : symbolic.SymbolicOutcome) → IsApart m.space.image ps → Fits m.space → offset < 2 ^ 64
       → symbolic.symbolic_call fuel offset args m ≡ Ok o
       → StandsFor ps o (plain.plain_call fuel (number_at ps (At Movable offset)) args (base_of ps.stack + STACK_PAGES * PAGE_BYTES) (memory_at ps [] m))
   call-outcome fuel offset args m o apart fits below e =

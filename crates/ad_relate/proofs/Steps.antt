@@ -1,27 +1,33 @@
 -- A step of the symbolic machine stands for the step of the plain one.
-use Rattle.std.proofs.Common.{◌≡◌, ℕ, ◌+◌, ◌-◌, ◌%◌, ◌^◌, ◌<◌, ◌++◌, List, Option, Some, None, map, Bool, true, false, Ok, Err, Result, IfOk, refl, sym, ap, subst, arith}
+use Rattle.std.proofs.Common.{◌≡◌, ℕ, ◌+◌, ◌-◌, ◌%◌, ◌^◌, ◌<◌, ◌++◌, ◌∙◌, bit_and, List, Option, Some, None, map, Bool, true, false, Ok, Err, Result, IfOk, refl, sym, ap, subst, arith}
 use Rattle.std.specs.Prelude.{◌==◌, if◌then◌else◌}
 use Rattle.std.proofs.lemmas.Bool.{cond_both, eqb-true}
+use Rattle.std.proofs.lemmas.Nat.{and_le_r}
 use Rattle.ad_base.specs.declared.end.End.{End}
 use Rattle.ad_base.specs.declared.end.End.TheVariants.{Misaligned}
 use Rattle.ad_base.specs.declared.layout.TheConstants.{FETCH_BYTES, INSTRUCTION_BYTES}
-use Rattle.ad_core.specs.Plain.{numbers, segments_storage, plain_step, word_or_end, certain}
+use Rattle.ad_core.specs.Plain.{segments_storage, plain_step, word_or_end, certain}
 use Rattle.ad_core.specs.Segments.{Access, fetched, accesses_of_fetch}
 use Rattle.ad_isa.specs.declared.instr.Alu.TheVariants.{Add}
 use Rattle.ad_isa.specs.declared.instr.Instr.{Instr}
 use Rattle.ad_isa.specs.declared.instr.Instr.TheVariants.{Auipc, OpImm, Op, Jalr}
 use Rattle.ad_isa.specs.Domain.{◌>>=◌}
-use Rattle.ad_isa.specs.Rows.{Effect, Writes, Jumps, effect, register, with_register}
-use Rattle.ad_isa.specs.Step.{State, Next, Goes, Ends, execute, perform, settle, step}
+use Rattle.ad_isa.specs.Numbers.{numbers}
+use Rattle.ad_isa.specs.Rows.{Branches, Effect, Jumps, Loads, Passes, Stops, Stores, Writes, effect, register, with_register}
+use Rattle.ad_isa.specs.Step.{Ends, Finishes, Goes, Next, State, execute, perform, settle, step, to_target}
 use Rattle.ad_isa.specs.Table.{decoded}
-use Rattle.ad_symbolic.specs.AddressSpace.{fetched_value}
-use Rattle.ad_symbolic.specs.Machine
-use Rattle.ad_symbolic.specs.Machine.{Memory, found, known, symbolic_step, symbolic_storage}
-use Rattle.ad_symbolic.specs.Value.{At, Num, Reason, Value, even_of, offset_of, sum_of, values}
+use Rattle.ad_symbolic.specs.AddressSpace.{fetched_value, part_bytes}
+use Rattle.ad_symbolic.specs.Machine.{Memory, has_row, known, symbolic_step, symbolic_storage, values_in}
+use Rattle.ad_symbolic.specs.Value.{conjunction_of, offset_of, sum_of, values}
+use Rattle.ad_symbolic.specs.declared.value.Reason.TheVariants.{Arithmetic}
+use Rattle.ad_symbolic.specs.declared.value.Value.TheVariants.{At, Num}
+use Rattle.ad_symbolic.specs.declared.value.Part.{Part}
+use Rattle.ad_symbolic.specs.declared.value.Reason.{Reason}
+use Rattle.ad_symbolic.specs.declared.value.Value.{Value}
 use Rattle.ad_relate.specs.Machines.{IsReady, memory_at, next_at, state_at}
 use Rattle.ad_relate.specs.Stands.{Places, number_at, segments_at}
 use Rattle.ad_relate.proofs.Fetch.{fetch-stands}
-use Rattle.ad_relate.proofs.Values.{Follows, alignment, even-follows, followed, register-at, sum-follows, with_register-at}
+use Rattle.ad_relate.proofs.Values.{Follows, alignment, even-follows, followed, if-apart, register-at, sum-follows, with_register-at}
 
 -- one answer after another
 follows-bind : {A B C D R S : Type 0} (f : A → B) (g : C → D) (x : Result A R) (y : Result B S) (k : A → Result C R) (l : B → Result D S)
@@ -29,66 +35,93 @@ follows-bind : {A B C D R S : Type 0} (f : A → B) (g : C → D) (x : Result A 
 follows-bind f g (Ok a) y k l e h = subst (λ z. Follows g (k a) (z >>= l)) (sym e) (h a)
 follows-bind f g (Err reason) y k l e h = tt
 
--- choices by tests that agree
-follows-if : {A B R S : Type 0} (f : A → B) (b c : Bool) (x v : Result A R) (y w : Result B S) → c ≡ b → Follows f x y → Follows f v w
-    → Follows f (if b then x else v) (if c then y else w)
-follows-if f true c x v y w e h k = subst (λ t. Follows f x (if t then y else w)) (sym e) h
-follows-if f false c x v y w e h k = subst (λ t. Follows f v (if t then y else w)) (sym e) k
+-- what was fetched, and what is stored then
+abbrev beside : Memory → Result (Result ℕ End) Reason → Result (Result ℕ End × Memory) Reason
+beside m clear = clear >>= λ found. Ok (found, m)
 
 module _ (ps : Places) where
   -- what an effect stands for
   abbrev effect_at : Effect Value → Effect ℕ
+  effect_at Passes = Passes
   effect_at (Writes rd v) = Writes rd (number_at ps v)
   effect_at (Jumps rd link target) = Jumps rd (number_at ps link) (number_at ps target)
+  effect_at (Branches target) = Branches (number_at ps target)
+  effect_at (Loads size signed rd address) = Loads size signed rd (number_at ps address)
+  effect_at (Stores size v address) = Stores size (number_at ps v) (number_at ps address)
+  effect_at (Stops end) = Stops end
 
   -- what follows a sum
   follows-sum : {C D : Type 0} (g : C → D) (a b : Value) (x y : ℕ) (k : Value → Result C Reason) (l : ℕ → Result D ⊥) → x ≡ number_at ps a → y ≡ number_at ps b
       → ((v : Value) → Follows g (k v) (l (number_at ps v))) → Follows g (sum_of a b >>= k) (l ((x + y) % 2 ^ 64))
   follows-sum g a b x y k l e h rest = follows-bind (number_at ps) g (sum_of a b) (Ok ((x + y) % 2 ^ 64)) k l (sum-follows ps a b x y e h) rest
 
-  effect-follows : (xs : List Value) (pc : Value) (i : Instr) → Follows effect_at (effect values xs pc i) (effect numbers (map (number_at ps) xs) (number_at ps pc) i)
+  -- the effects of the rows that the symbolic machine has
+  effect-follows : (size : Part → ℕ) (xs : List Value) (pc next : Value) (i : Instr) → has_row i ≡ true
+      → Follows effect_at (effect (values size) xs pc next i) (effect numbers (map (number_at ps) xs) (number_at ps pc) (number_at ps next) i)
   unfolding effect
-  effect-follows xs pc (Auipc rd imm) = follows-sum effect_at pc (Num _) _ _ _ (λ v. Ok (Writes rd v)) refl refl (λ v. refl)
-  effect-follows xs pc (OpImm Add rd rs1 imm) = follows-sum effect_at (register values xs rs1) (Num _) _ _ _ (λ v. Ok (Writes rd v)) (register-at ps xs rs1) refl (λ v. refl)
-  effect-follows xs pc (Op Add rd rs1 rs2) =
-      follows-sum effect_at (register values xs rs1) (register values xs rs2) _ _ _ (λ v. Ok (Writes rd v)) (register-at ps xs rs1) (register-at ps xs rs2) (λ v. refl)
-  effect-follows xs pc (Jalr rd rs1 imm) =
-      let next = (number_at ps pc + INSTRUCTION_BYTES) % 2 ^ 64 in
-      follows-sum effect_at (register values xs rs1) (Num _) _ _ _ (λ s. Ok (Jumps rd next (s - s % 2))) (register-at ps xs rs1) refl (λ sum.
-      follows-bind (number_at ps) effect_at (even_of sum) _ _ (λ t. Ok (Jumps rd next t)) (even-follows ps sum _ refl) (λ target.
-      follows-sum effect_at pc (Num INSTRUCTION_BYTES) _ _ _ (λ link. Ok (Jumps rd link (number_at ps target))) refl refl (λ link. refl)))
+  effect-follows size xs pc next (Auipc rd imm) has = follows-sum effect_at pc (Num _) _ _ _ (λ v. Ok (Writes rd v)) refl refl (λ v. refl)
+  effect-follows size xs pc next (OpImm Add rd rs1 imm) has =
+      follows-sum effect_at (register (values size) xs rs1) (Num _) _ _ _ (λ v. Ok (Writes rd v)) (register-at ps size xs rs1) refl (λ v. refl)
+  effect-follows size xs pc next (Op Add rd rs1 rs2) has =
+      follows-sum effect_at (register (values size) xs rs1) (register (values size) xs rs2) _ _ _ (λ v. Ok (Writes rd v)) (register-at ps size xs rs1) (register-at ps size xs rs2) (λ v. refl)
+  effect-follows size xs pc next (Jalr rd rs1 imm) has =
+      follows-sum effect_at (register (values size) xs rs1) (Num _) _ _ _ (λ s. Ok (Jumps rd (number_at ps next) (bit_and s (2 ^ 64 - 2)))) (register-at ps size xs rs1) refl (λ sum.
+      follows-bind (number_at ps) effect_at (conjunction_of sum (Num (2 ^ 64 - 2))) _ _ (λ t. Ok (Jumps rd (number_at ps next) t)) (even-follows ps sum _ refl) (λ target. refl))
+  effect-follows size xs pc next i has = absurd cc
 
   module _ (accesses : List Access) (h : State Value) (m : Memory) where
-    settle-follows : (e : Effect Value) → Follows (next_at ps accesses) (settle values symbolic_storage h m e) (settle numbers segments_storage (state_at ps h) (memory_at ps accesses m) (effect_at e))
-    settle-follows (Writes rd v) =
-        let mapped = memory_at ps accesses m in
-        let xs = with_register numbers (map (number_at ps) h.registers) rd (number_at ps v) in
-        follows-sum (next_at ps accesses) h.pc (Num INSTRUCTION_BYTES) _ _ _ (λ next. Ok (Goes (record { registers = xs; pc = next }) mapped)) refl refl
-        (λ next j. Ok (Goes (record { registers = with_register-at ps h.registers rd v j; pc = number_at ps next }) mapped))
-    settle-follows (Jumps rd link target) =
-        follows-if (next_at ps accesses) (offset_of target % FETCH_BYTES == 0) (number_at ps target % FETCH_BYTES == 0) _ _ _ _ (ap (λ n. n == 0) (alignment ps target))
-        (λ j. Ok (Goes (record { registers = with_register-at ps h.registers rd link j; pc = number_at ps target }) (memory_at ps accesses m))) refl
+    -- a target
+    to_target-at : (xs : List Value) (target : Value) → to_target numbers segments_storage (map (number_at ps) xs) (memory_at ps accesses m) (number_at ps target) ≡ next_at ps accesses (to_target (values_in m) symbolic_storage xs m target)
+    to_target-at xs target =
+        ap (λ n. if n == 0 then Goes (record { registers = map (number_at ps) xs; pc = number_at ps target }) (memory_at ps accesses m) else Finishes (Ends Misaligned) (memory_at ps accesses m)) (alignment ps target)
+        ∙ sym (if-apart (next_at ps accesses) (offset_of target % FETCH_BYTES == 0) (Goes (record { registers = xs; pc = target }) m) (Finishes (Ends Misaligned) m))
 
-    known-follows : (i : Option Instr) → Follows (next_at ps accesses) (known h m i) (execute numbers segments_storage (state_at ps h) (memory_at ps accesses m) i)
+    settle-at : (next : Value) (e : Effect Value) → settle numbers segments_storage (state_at ps h) (memory_at ps accesses m) (number_at ps next) (effect_at e) ≡ next_at ps accesses (settle (values_in m) symbolic_storage h m next e)
+    settle-at next Passes = refl
+    settle-at next (Writes rd v) = λ j. Goes (record { registers = with_register-at ps (part_bytes m.space.image) h.registers rd v j; pc = number_at ps next }) (memory_at ps accesses m)
+    settle-at next (Jumps rd link target) =
+        ap (λ xs. to_target numbers segments_storage xs (memory_at ps accesses m) (number_at ps target)) (with_register-at ps (part_bytes m.space.image) h.registers rd link)
+        ∙ to_target-at (with_register (values_in m) h.registers rd link) target
+    settle-at next (Branches target) = to_target-at h.registers target
+    settle-at next (Loads size signed rd address) = refl
+    settle-at next (Stores size v address) = refl
+    settle-at next (Stops end) = refl
+
+    execute-follows : (i : Instr) → has_row i ≡ true
+        → Follows (next_at ps accesses) (execute (values_in m) symbolic_storage h m INSTRUCTION_BYTES (Some i)) (execute numbers segments_storage (state_at ps h) (memory_at ps accesses m) INSTRUCTION_BYTES (Some i))
+    execute-follows i has =
+        follows-sum (next_at ps accesses) h.pc (Num INSTRUCTION_BYTES) _ _ _
+        (λ next. effect numbers (map (number_at ps) h.registers) (number_at ps h.pc) next i >>= λ e. Ok (settle numbers segments_storage (state_at ps h) (memory_at ps accesses m) next e)) refl refl
+        (λ next. follows-bind effect_at (next_at ps accesses) (effect (values_in m) h.registers h.pc next i) _ _ (λ e. Ok (settle numbers segments_storage (state_at ps h) (memory_at ps accesses m) (number_at ps next) e))
+        (effect-follows (part_bytes m.space.image) h.registers h.pc next i has) (λ e. ap Ok (settle-at next e)))
+
+    -- the word of a row that the symbolic machine hasn't isn't clear
+    row-follows : (i : Instr) (has : Bool) → has_row i ≡ has
+        → Follows (next_at ps accesses) ((if has then Ok (Some i) else Err Arithmetic) >>= execute (values_in m) symbolic_storage h m INSTRUCTION_BYTES) (execute numbers segments_storage (state_at ps h) (memory_at ps accesses m) INSTRUCTION_BYTES (Some i))
+    row-follows i true has = execute-follows i has
+    row-follows i false has = tt
+
+    known-follows : (i : Option Instr)
+        → Follows (next_at ps accesses) (known i >>= execute (values_in m) symbolic_storage h m INSTRUCTION_BYTES) (execute numbers segments_storage (state_at ps h) (memory_at ps accesses m) INSTRUCTION_BYTES i)
     known-follows None = tt
-    known-follows (Some i) =
-        follows-bind effect_at (next_at ps accesses) (effect values h.registers h.pc i) _ _ (settle numbers segments_storage (state_at ps h) (memory_at ps accesses m)) (effect-follows h.registers h.pc i) settle-follows
+    known-follows (Some i) = row-follows i (has_row i) refl
 
-    found-follows : (word : Result ℕ End) → Follows (next_at ps accesses) (found h m word) (perform numbers segments_storage (state_at ps h) (memory_at ps accesses m) word)
+    found-follows : (word : Result ℕ End) → Follows (next_at ps accesses) (perform (values_in m) symbolic_storage h m word) (perform numbers segments_storage (state_at ps h) (memory_at ps accesses m) word)
     found-follows (Ok word) = known-follows (decoded word)
     found-follows (Err end) = refl
 
     -- a step, where what is fetched is the same
     fetched-follows : (clear : Result (Result ℕ End) Reason) (word : Result ℕ End) → ((found : Result ℕ End) → clear ≡ Ok found → word ≡ found)
-        → Follows (next_at ps accesses) (clear >>= found h m) (perform numbers segments_storage (state_at ps h) (memory_at ps accesses m) word)
+        → Follows (next_at ps accesses) (beside m clear >>= λ found. perform (values_in m) symbolic_storage h found.1 found.0) (perform numbers segments_storage (state_at ps h) (memory_at ps accesses m) word)
     fetched-follows (Ok found) word same =
-        subst (λ w. Follows (next_at ps accesses) (Machine.found h m found) (perform numbers segments_storage (state_at ps h) (memory_at ps accesses m) w)) (sym (same found refl)) (found-follows found)
+        subst (λ w. Follows (next_at ps accesses) (perform (values_in m) symbolic_storage h m found) (perform numbers segments_storage (state_at ps h) (memory_at ps accesses m) w)) (sym (same found refl)) (found-follows found)
     fetched-follows (Err reason) word same = tt
 
 -- an effect leads to an offset of 64 bits
 abbrev LeadsTo : Effect Value → Type 0
-LeadsTo (Writes rd v) = Unit {0}
 LeadsTo (Jumps rd link target) = offset_of target < 2 ^ 64
+LeadsTo (Branches target) = offset_of target < 2 ^ 64
+LeadsTo e = Unit {0}
 
 -- what holds of each answer of the first holds of what follows
 if-bind : {A B R : Type 0} (P : B → Type 0) (x : Result A R) (k : A → Result B R) → ((a : A) → x ≡ Ok a → IfOk (k a) P) → IfOk (x >>= k) P
@@ -105,56 +138,74 @@ sum-below (At p o) (Num n) = omega arith
 sum-below (Num n) (At p o) = omega arith
 sum-below (At p o) (At q u) = tt
 
-even-below : (a : Value) → offset_of a < 2 ^ 64 → IfOk (even_of a) (λ v. offset_of v < 2 ^ 64)
-even-below (Num a) h = omega arith
-even-below (At p o) h = omega arith
+even-below : (a : Value) → IfOk (conjunction_of a (Num (2 ^ 64 - 2))) (λ v. offset_of v < 2 ^ 64)
+even-below (Num a) = omega (arith, and_le_r a (2 ^ 64 - 2))
+even-below (At p o) = omega (arith, and_le_r o (2 ^ 64 - 2))
 
 -- and that of the next instruction
 next-aligned : (a : Value) → offset_of a % FETCH_BYTES ≡ 0 → IfOk (sum_of a (Num INSTRUCTION_BYTES)) (λ v. offset_of v % FETCH_BYTES ≡ 0)
 next-aligned (Num n) h = omega arith
 next-aligned (At p o) h = omega arith
 
-effect-leads : (xs : List Value) (pc : Value) (i : Instr) → IfOk (effect values xs pc i) LeadsTo
+effect-leads : (size : Part → ℕ) (xs : List Value) (pc next : Value) (i : Instr) → has_row i ≡ true → IfOk (effect (values size) xs pc next i) LeadsTo
 unfolding effect
-effect-leads xs pc (Auipc rd imm) = if-bind LeadsTo (sum_of pc (Num _)) _ (λ v e. tt)
-effect-leads xs pc (OpImm Add rd rs1 imm) = if-bind LeadsTo (sum_of (register values xs rs1) (Num _)) _ (λ v e. tt)
-effect-leads xs pc (Op Add rd rs1 rs2) = if-bind LeadsTo (sum_of (register values xs rs1) (register values xs rs2)) _ (λ v e. tt)
-effect-leads xs pc (Jalr rd rs1 imm) =
-    if-bind LeadsTo (sum_of (register values xs rs1) (Num _)) _ (λ sum s.
-    if-bind LeadsTo (even_of sum) _ (λ target t.
-    if-bind LeadsTo (sum_of pc (Num INSTRUCTION_BYTES)) _ (λ link l.
-    if-each (λ v. offset_of v < 2 ^ 64) (even_of sum) target (even-below sum (if-each (λ v. offset_of v < 2 ^ 64) (sum_of (register values xs rs1) (Num _)) sum (sum-below _ _) s)) t)))
+effect-leads size xs pc next (Auipc rd imm) has = if-bind LeadsTo (sum_of pc (Num _)) _ (λ v e. tt)
+effect-leads size xs pc next (OpImm Add rd rs1 imm) has = if-bind LeadsTo (sum_of (register (values size) xs rs1) (Num _)) _ (λ v e. tt)
+effect-leads size xs pc next (Op Add rd rs1 rs2) has = if-bind LeadsTo (sum_of (register (values size) xs rs1) (register (values size) xs rs2)) _ (λ v e. tt)
+effect-leads size xs pc next (Jalr rd rs1 imm) has =
+    if-bind LeadsTo (sum_of (register (values size) xs rs1) (Num _)) _ (λ sum s.
+    if-bind LeadsTo (conjunction_of sum (Num (2 ^ 64 - 2))) _ (λ target t. if-each (λ v. offset_of v < 2 ^ 64) (conjunction_of sum (Num (2 ^ 64 - 2))) target (even-below sum) t))
+effect-leads size xs pc next i has = absurd cc
 
 module _ (ps : Places) (h : State Value) (m : Memory) (ready : IsReady ps h m) where
   -- where a step goes on, it does so at an offset that may be fetched at
   abbrev GoesReady : Next Value Memory → Type 0
   GoesReady (Goes after memory) = IsReady ps after memory
-  GoesReady (Ends end memory) = Unit {0}
+  GoesReady (Finishes finish memory) = Unit {0}
 
-  settle-ready : (e : Effect Value) → LeadsTo e → IfOk (settle values symbolic_storage h m e) GoesReady
-  settle-ready (Writes rd v) leads = if-bind GoesReady (sum_of h.pc (Num INSTRUCTION_BYTES)) _ (λ next e. record {
-    apart = ready.apart;
-    fits = ready.fits;
-    aligned = if-each (λ v. offset_of v % FETCH_BYTES ≡ 0) (sum_of h.pc (Num INSTRUCTION_BYTES)) next (next-aligned h.pc ready.aligned) e;
-    below = if-each (λ v. offset_of v < 2 ^ 64) (sum_of h.pc (Num INSTRUCTION_BYTES)) next (sum-below h.pc (Num INSTRUCTION_BYTES)) e;
-  })
-  settle-ready (Jumps rd link target) leads =
-      let there : Next Value Memory = Goes (record { registers = with_register values h.registers rd link; pc = target }) m in
-      cond_both (offset_of target % FETCH_BYTES == 0) (Ok there) (Ok (Ends Misaligned m)) (λ r. IfOk r GoesReady)
+  to_target-ready : (xs : List Value) (target : Value) → offset_of target < 2 ^ 64 → GoesReady (to_target (values_in m) symbolic_storage xs m target)
+  to_target-ready xs target leads =
+      cond_both (offset_of target % FETCH_BYTES == 0) (Goes (record { registers = xs; pc = target }) m) (Finishes (Ends Misaligned) m) GoesReady
       (λ e. record { apart = ready.apart; fits = ready.fits; aligned = eqb-true (offset_of target % FETCH_BYTES) 0 e; below = leads }) (λ e. tt)
 
-  known-ready : (i : Option Instr) → IfOk (known h m i) GoesReady
-  known-ready None = tt
-  known-ready (Some i) =
-      if-bind GoesReady (effect values h.registers h.pc i) _ (λ e leads. settle-ready e (if-each LeadsTo (effect values h.registers h.pc i) e (effect-leads h.registers h.pc i) leads))
+  module _ (next : Value) (aligned : offset_of next % FETCH_BYTES ≡ 0) (below : offset_of next < 2 ^ 64) where
+    settle-ready : (e : Effect Value) → LeadsTo e → GoesReady (settle (values_in m) symbolic_storage h m next e)
+    settle-ready Passes leads = record { apart = ready.apart; fits = ready.fits; aligned = aligned; below = below }
+    settle-ready (Writes rd v) leads = record { apart = ready.apart; fits = ready.fits; aligned = aligned; below = below }
+    settle-ready (Jumps rd link target) leads = to_target-ready _ target leads
+    settle-ready (Branches target) leads = to_target-ready _ target leads
+    settle-ready (Loads size signed rd address) leads = tt
+    settle-ready (Stores size v address) leads = tt
+    settle-ready (Stops end) leads = tt
 
-  found-ready : (word : Result ℕ End) → IfOk (found h m word) GoesReady
+  execute-ready : (i : Instr) → has_row i ≡ true → IfOk (execute (values_in m) symbolic_storage h m INSTRUCTION_BYTES (Some i)) GoesReady
+  execute-ready i has =
+      if-bind GoesReady (sum_of h.pc (Num INSTRUCTION_BYTES)) _ (λ next n.
+      if-bind GoesReady (effect (values_in m) h.registers h.pc next i) _ (λ e leads.
+      settle-ready next
+      (if-each (λ v. offset_of v % FETCH_BYTES ≡ 0) (sum_of h.pc (Num INSTRUCTION_BYTES)) next (next-aligned h.pc ready.aligned) n)
+      (if-each (λ v. offset_of v < 2 ^ 64) (sum_of h.pc (Num INSTRUCTION_BYTES)) next (sum-below h.pc (Num INSTRUCTION_BYTES)) n)
+      e (if-each LeadsTo (effect (values_in m) h.registers h.pc next i) e (effect-leads (part_bytes m.space.image) h.registers h.pc next i has) leads)))
+
+  row-ready : (i : Instr) (has : Bool) → has_row i ≡ has → IfOk ((if has then Ok (Some i) else Err Arithmetic) >>= execute (values_in m) symbolic_storage h m INSTRUCTION_BYTES) GoesReady
+  row-ready i true has = execute-ready i has
+  row-ready i false has = tt
+
+  known-ready : (i : Option Instr) → IfOk (known i >>= execute (values_in m) symbolic_storage h m INSTRUCTION_BYTES) GoesReady
+  known-ready None = tt
+  known-ready (Some i) = row-ready i (has_row i) refl
+
+  found-ready : (word : Result ℕ End) → IfOk (perform (values_in m) symbolic_storage h m word) GoesReady
   found-ready (Ok word) = known-ready (decoded word)
   found-ready (Err end) = tt
 
+  clear-ready : (clear : Result (Result ℕ End) Reason) → IfOk (beside m clear >>= λ found. perform (values_in m) symbolic_storage h found.1 found.0) GoesReady
+  clear-ready (Ok word) = found-ready word
+  clear-ready (Err reason) = tt
+
   pub step-ready : IfOk (symbolic_step h m) GoesReady
-  unfolding symbolic_step
-  step-ready = if-bind GoesReady (fetched_value m.space h.pc) _ (λ word e. found-ready word)
+  unfolding symbolic_step step
+  step-ready = clear-ready (fetched_value m.space h.pc)
 
   -- a step stands for the plain machine's step
   pub step-follows : (accesses : List Access)
@@ -174,3 +225,8 @@ step-stands ps h m accesses next ready e =
 -- and is ready for the step after it
 pub step-leaves : (ps : Places) (h after : State Value) (m memory : Memory) → IsReady ps h m → symbolic_step h m ≡ Ok (Goes after memory) → IsReady ps after memory
 step-leaves ps h after m memory ready e = if-each (GoesReady ps h m ready) (symbolic_step h m) (Goes after memory) (step-ready ps h m ready) e
+
+-- the same, whatever accesses were made then
+pub step-stands-after : (ps : Places) (h : State Value) (m : Memory) (accesses : List Access) (next : Next Value Memory) → IsReady ps h m → symbolic_step h m ≡ Ok next
+    → (after : List Access) × (plain_step (state_at ps h) (memory_at ps accesses m) ≡ next_at ps after next)
+step-stands-after ps h m accesses next ready e = (accesses ++ accesses_of_fetch (number_at ps h.pc), step-stands ps h m accesses next ready e)

@@ -12,12 +12,12 @@ abbrev pub AreOffsets : Image → Type 0
 AreOffsets i = All (λ (x : Export). x.offset < 2 ^ 64) i.exports
 
 -- where the movable part and the stack lay in the call of an entry
-abbrev pub places_of : Entry → Places
-places_of e = record { movable = e.under; stack = e.stack }
+abbrev pub entry_places : Entry → Places
+entry_places e = record { movable = e.under; stack = e.stack }
 
 -- at each call the movable part, the stack and the immovable part lay apart
 abbrev pub ArePlacedApart : Image → List Entry → Type 0
-ArePlacedApart i entries = All (λ e. IsApart i (places_of e)) entries
+ArePlacedApart i entries = All (λ e. IsApart i (entry_places e)) entries
 
 -- the call of an entry, which the symbolic machine is asked for
 abbrev pub asked_of : Image → Entry → Asked

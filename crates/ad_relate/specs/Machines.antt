@@ -1,16 +1,16 @@
 -- What the symbolic machine's states, steps and outcomes stand for.
 use Rattle.std.specs.Prelude.{◌≡◌, ℕ, ◌%◌, ◌^◌, ◌<◌, List, map}
-use Rattle.ad_base.specs.declared.end.End.{End}
-use Rattle.ad_base.specs.declared.end.End.TheVariants as ends
 use Rattle.ad_base.specs.declared.layout.TheConstants.{FETCH_BYTES}
 use Rattle.ad_core.specs.Plain as plain
 use Rattle.ad_core.specs.Segments.{Access}
 use Rattle.ad_core.specs.Turn.{fixed_data_of, writable_of}
-use Rattle.ad_isa.specs.Step.{State, Next, Goes, Ends}
+use Rattle.ad_isa.specs.Step.{Aborts, Ends, Finish, Finishes, Goes, Next, Returns, State}
 use Rattle.ad_symbolic.specs.AddressSpace.{numbers_of}
-use Rattle.ad_symbolic.specs.Machine.{Finish, Memory, Outcome, Returns, Stops}
+use Rattle.ad_symbolic.specs.Machine.{Memory, SymbolicOutcome}
 use Rattle.ad_symbolic.specs.Replay.{end_of, number_or_zero}
-use Rattle.ad_symbolic.specs.Value.{Num, Value, offset_of}
+use Rattle.ad_symbolic.specs.Value.{offset_of}
+use Rattle.ad_symbolic.specs.declared.value.Value.TheVariants.{Num}
+use Rattle.ad_symbolic.specs.declared.value.Value.{Value}
 use Rattle.ad_relate.specs.Stands.{Fits, IsApart, Places, number_at, segments_at}
 
 -- the state that a state stands for
@@ -26,20 +26,21 @@ memory_at ps accesses m = record {
   accesses = accesses;
 }
 
+-- the end that an end stands for
+abbrev pub finish_at : Places → Finish Value → Finish ℕ
+finish_at ps (Returns v) = Returns (number_at ps v)
+finish_at ps (Aborts v) = Aborts (number_at ps v)
+finish_at ps (Ends end) = Ends end
+
 -- what a step stands for, once these accesses were made
 abbrev pub next_at : Places → List Access → Next Value Memory → Next ℕ plain.Memory
 next_at ps accesses (Goes h m) = Goes (state_at ps h) (memory_at ps accesses m)
-next_at ps accesses (Ends end m) = Ends end (memory_at ps accesses m)
-
--- the end that a run's end stands for
-abbrev pub end_at : Places → Finish → End
-end_at ps (Returns v) = ends.Returned (number_at ps v)
-end_at ps (Stops end) = end
+next_at ps accesses (Finishes finish m) = Finishes (finish_at ps finish) (memory_at ps accesses m)
 
 -- The plain machine's outcome is what the symbolic machine's one stands for. The symbolic machine keeps
 -- no accesses.
-pub record StandsFor (ps : Places) (o : Outcome) (found : plain.Outcome) : Type 0 where
-  pub end : found.end ≡ end_at ps o.finish
+pub record StandsFor (ps : Places) (o : SymbolicOutcome) (found : plain.PlainOutcome) : Type 0 where
+  pub end : found.end ≡ plain.end_of (finish_at ps o.finish)
   pub segments : found.memory.segments ≡ segments_at ps o.memory.space
   pub notes : found.memory.notes ≡ map (number_at ps) o.memory.notes
   pub queue : found.memory.queue ≡ map (number_at ps) o.memory.queue
@@ -53,7 +54,7 @@ pub record IsReady (ps : Places) (h : State Value) (m : Memory) : Type 0 where
   pub below : offset_of h.pc < 2 ^ 64
 
 -- A clear call and the plain machine's call have the same end, notes, data and device queue.
-pub record Agrees (o : Outcome) (found : plain.Outcome) : Type 0 where
+pub record Agrees (o : SymbolicOutcome) (found : plain.PlainOutcome) : Type 0 where
   pub end : found.end ≡ end_of o.finish
   pub notes : found.memory.notes ≡ map number_or_zero o.memory.notes
   pub queue : o.memory.queue ≡ map Num found.memory.queue

@@ -9,7 +9,11 @@ use Rattle.ad_base.specs.Image.{IsWhole, movable_pages}
 use Rattle.ad_base.specs.Place.{base_of, IsModulePlace, IsPlace}
 use Rattle.ad_core.specs.Segments.{Segment}
 use Rattle.ad_core.specs.Image.{segments_of}
-use Rattle.ad_symbolic.specs.Value.{At, Byte, Movable, Num, Number, OfAddress, Part, Stack, Value}
+use Rattle.ad_symbolic.specs.Value.{Byte, Number, OfAddress}
+use Rattle.ad_symbolic.specs.declared.value.Value.TheVariants.{At, Num}
+use Rattle.ad_symbolic.specs.declared.value.Part.TheVariants.{Movable, Stack}
+use Rattle.ad_symbolic.specs.declared.value.Part.{Part}
+use Rattle.ad_symbolic.specs.declared.value.Value.{Value}
 use Rattle.ad_symbolic.specs.AddressSpace.{AddressSpace}
 
 -- where the movable part and the stack lie

@@ -1,6 +1,6 @@
 //! Laws of related states. Each function makes no call: its contract is the law.
 
-ghost use Rattle.std.specs.Prelude.{◌≡◌, ℕ, ◌+◌, ◌-◌, ◌*◌, ◌%◌, ◌^◌, ◌<◌, ◌++◌, List, map, true, Result, Ok};
+ghost use Rattle.std.specs.Prelude.{◌≡◌, ℕ, ◌+◌, ◌-◌, ◌*◌, ◌%◌, ◌^◌, ◌<◌, bit_and, List, map, true, Result, Ok};
 ghost use Rattle.ad_base.specs.declared.end.End.{End};
 ghost use Rattle.ad_base.specs.declared.image.Image.{Image};
 ghost use Rattle.ad_base.specs.Place.{base_of};
@@ -8,12 +8,14 @@ ghost use Rattle.ad_base.specs.Book.{Contents};
 ghost use Rattle.ad_base.specs.Image.{IsWhole};
 ghost use Rattle.ad_core.specs.Plain as machine;
 ghost use Rattle.ad_core.specs.Turn.{IsLawful, plain};
-ghost use Rattle.ad_core.specs.Segments.{Access, fetched, accesses_of_fetch};
+ghost use Rattle.ad_core.specs.Segments.{Access, fetched};
 ghost use Rattle.ad_isa.specs.Step.{State, Next, Goes};
 ghost use Rattle.ad_symbolic.specs.AddressSpace.{AddressSpace, fetched_value};
 ghost use Rattle.ad_symbolic.specs.Machine as symbolic;
 ghost use Rattle.ad_symbolic.specs.Replay.{Asked, clear_calls, keeps_none, kept_of, run_of};
-ghost use Rattle.ad_symbolic.specs.Value.{Value, even_of, offset_of, sum_of};
+ghost use Rattle.ad_symbolic.specs.Value.{conjunction_of, offset_of, sum_of};
+ghost use Rattle.ad_symbolic.specs.declared.value.Value.TheVariants.{Num};
+ghost use Rattle.ad_symbolic.specs.declared.value.Value.{Value};
 ghost use Rattle.ad_relate.specs.Machines.{Agrees, IsReady, StandsFor, memory_at, next_at, state_at};
 ghost use Rattle.ad_relate.specs.Stands.{number_at, segments_at, DataFits, Fits, IsApart, Places};
 ghost use Rattle.ad_relate.specs.ClearHistory.{AreOffsets, ArePlacedApart, RepliesAsReplayed, answers_of};
@@ -26,8 +28,8 @@ use ad_base::{FETCH_BYTES, PAGE_BYTES, STACK_PAGES};
 pub fn law_values()
     ensures sum { (ps : Places) (a b v : Value) → sum_of a b ≡ Ok v
         → number_at ps v ≡ (number_at ps a + number_at ps b) % 2 ^ 64 }
-    ensures even { (ps : Places) (a v : Value) → even_of a ≡ Ok v
-        → number_at ps v ≡ number_at ps a - number_at ps a % 2 }
+    ensures even { (ps : Places) (a v : Value) → conjunction_of a (Num (2 ^ 64 - 2)) ≡ Ok v
+        → number_at ps v ≡ bit_and (number_at ps a) (2 ^ 64 - 2) }
     ensures alignment { (ps : Places) (v : Value)
         → number_at ps v % FETCH_BYTES ≡ offset_of v % FETCH_BYTES }
 {}
@@ -42,13 +44,12 @@ pub fn law_fetch()
         → machine.word_or_end (fetched (segments_at ps space) (number_at ps v)) ≡ found }
 {}
 
-/// A clear step stands for the plain machine's step, wherever the movable part and the stack lie, and
-/// where it goes on, the next step is ready too.
+/// A clear step stands for the plain machine's step, wherever the movable part and the stack lie, whatever
+/// accesses were made before, and where it goes on, the next step is ready too.
 pub fn law_step()
     ensures stands { (ps : Places) (h : State Value) (m : symbolic.Memory) (accesses : List Access) (next : Next Value symbolic.Memory)
         → IsReady ps h m → symbolic.symbolic_step h m ≡ Ok next
-        → machine.plain_step (state_at ps h) (memory_at ps accesses m)
-        ≡ next_at ps (accesses ++ accesses_of_fetch (number_at ps h.pc)) next }
+        → (after : List Access) × (machine.plain_step (state_at ps h) (memory_at ps accesses m) ≡ next_at ps after next) }
     ensures ready { (ps : Places) (h after : State Value) (m memory : symbolic.Memory)
         → IsReady ps h m → symbolic.symbolic_step h m ≡ Ok (Goes after memory)
         → IsReady ps after memory }
@@ -59,10 +60,10 @@ pub fn law_step()
 /// sp: it ends so, and leaves these segments, notes and words of the device queue. Since this holds for
 /// each number of steps, both end at the same step.
 pub fn law_run()
-    ensures run { (ps : Places) (fuel made : ℕ) (accesses : List Access) (h : State Value) (m : symbolic.Memory) (o : symbolic.Outcome)
-        → IsReady ps h m → symbolic.run fuel made h m ≡ Ok o
-        → StandsFor ps o (machine.run fuel (state_at ps h) (memory_at ps accesses m)) }
-    ensures call { (ps : Places) (fuel offset : ℕ) (args : List ℕ) (m : symbolic.Memory) (o : symbolic.Outcome)
+    ensures run { (ps : Places) (fuel made : ℕ) (accesses : List Access) (h : State Value) (m : symbolic.Memory) (o : symbolic.SymbolicOutcome)
+        → IsReady ps h m → symbolic.symbolic_run fuel made h m ≡ Ok o
+        → StandsFor ps o (machine.plain_run fuel (state_at ps h) (memory_at ps accesses m)) }
+    ensures call { (ps : Places) (fuel offset : ℕ) (args : List ℕ) (m : symbolic.Memory) (o : symbolic.SymbolicOutcome)
         → IsApart m.space.image ps → Fits m.space → offset < 2 ^ 64
         → symbolic.symbolic_call fuel offset args m ≡ Ok o
         → StandsFor ps o (machine.plain_call fuel ((base_of ps.movable + offset) % 2 ^ 64) args
@@ -73,7 +74,7 @@ pub fn law_run()
 /// A clear call, which keeps no address, and the plain machine's call of the same, wherever the movable part
 /// and the stack lie, have the same end, notes, data and device queue.
 pub fn law_clear()
-    ensures { (i : Image) (ps : Places) (fuel : ℕ) (book : Contents) (call : Asked) (o : symbolic.Outcome)
+    ensures { (i : Image) (ps : Places) (fuel : ℕ) (book : Contents) (call : Asked) (o : symbolic.SymbolicOutcome)
         → IsApart i ps → DataFits i book → call.offset < 2 ^ 64
         → run_of i fuel (kept_of book) call ≡ Ok o → keeps_none o ≡ true
         → Agrees o (plain i fuel book ps.movable ps.stack call.offset call.args) }

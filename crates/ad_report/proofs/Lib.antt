@@ -1,2 +1,2 @@
 pub mod AtLine
-pub mod Places
+pub mod Indices

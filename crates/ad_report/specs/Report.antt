@@ -75,10 +75,6 @@ report s books moves rows =
     ++ flat_map (map_line s) rows
     ++ end_line (sum_by (λ b. length b.entries) books) (count_by is_made moves) (length rows)
 
--- the calls come in order of their lines
-abbrev pub AreCallsInOrder : Contents → Type 0
-AreCallsInOrder b = IsNonDecreasingBy (λ e. e.line) b.entries
-
--- and so do the moves
+-- the moves come in order of their lines
 abbrev pub AreMovesInOrder : List Moved → Type 0
 AreMovesInOrder moves = IsNonDecreasingBy (λ m. m.line) moves

@@ -2,28 +2,31 @@
 
 ghost use Rattle.std.specs.Prelude.{◌≡◌, ◌++◌, OnOk};
 ghost use Rattle.std.specs.List.{flat_map};
-ghost use Rattle.std.specs.List.Sorted.{IsNonDecreasingBy};
 ghost use Rattle.ad_report.specs.Report.{call_line, calls_at, notes_text};
+ghost use Rattle.ad_report.specs.Private.Index.{IsIndex};
 
+use crate::index::CallAt;
 use crate::line::at_line;
 use crate::print::print;
 use ad_base::{Entry, Notes, OutOfMemory};
 
-/// Appends a line for each call of a history that a line of the script made.
+/// Appends a line for each call of a history that a line of the script made. The calls are those of the
+/// history in order of their lines.
 pub fn call_lines(
     text: &mut Vec<u8>,
     name: &[u8],
     export: &[u8],
     history: &[Entry],
+    calls: &[CallAt],
     line: u64,
 ) -> Result<(), OutOfMemory>
-    requires { IsNonDecreasingBy (λ e. e.line) history.now }
+    requires { IsIndex history.now calls.now }
     ensures { OnOk result (text.new.items ≡ text.old.items
         ++ flat_map (λ p. call_line name.now export.now p.0 p.1) (calls_at history.now line)) }
 {
-    let (first, calls) = at_line(history, line);
-    for (index, call) in calls.iter().enumerate() {
-        call_line(text, name, export, (first + index) as u64, call)?;
+    for call in at_line(calls, line) {
+        let position = call.position;
+        call_line(text, name, export, position as u64, &history[position])?;
     }
     Ok(())
 }

@@ -2,6 +2,7 @@
 #![tactic(auto)]
 
 mod calls;
+mod index;
 mod line;
 mod mappings;
 mod moves;

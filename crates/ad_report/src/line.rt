@@ -1,10 +1,10 @@
 //! What a line of the script made is looked up.
 
-ghost use Rattle.std.specs.Prelude.{◌≡◌, ℕ, ◌+◌, ◌<◌, ◌≤◌, ◌==◌, length, filter};
-ghost use Rattle.std.specs.List.{enumerate_from};
+ghost use Rattle.std.specs.Prelude.{◌≡◌, ℕ, ◌<◌, ◌≤◌, ◌==◌, length, filter};
 ghost use Rattle.std.specs.List.Sorted.{IsNonDecreasingBy, IsPartitionPoint};
 
-use ad_base::{Entry, Moved};
+use crate::index::CallAt;
+use ad_base::Moved;
 
 /// What a line of the script made.
 pub trait OfLine {
@@ -16,8 +16,8 @@ pub trait OfLine {
         ensures { result ≡ line_number self.now };
 }
 
-impl OfLine for Entry {
-    ghost line_number = { λ e. e.line };
+impl OfLine for CallAt {
+    ghost line_number = { λ c. c.line };
 
     fn line(&self) -> u64 {
         self.line
@@ -32,17 +32,14 @@ impl OfLine for Moved {
     }
 }
 
-/// Those that this line made, of some in order of their lines, and the index of the first of them.
-pub fn at_line<T: OfLine>(items: &[T], line: u64) -> (usize, &[T])
+/// Those that this line made, of some in order of their lines.
+pub fn at_line<T: OfLine>(items: &[T], line: u64) -> &[T]
     requires { IsNonDecreasingBy T.line_number items.now }
-    ensures items { result.1.now ≡ filter (λ x. T.line_number x == line) items.now }
-    ensures places { enumerate_from result.0 result.1.now
-        ≡ filter (λ p. T.line_number p.1 == line) (enumerate_from 0 items.now) }
-    ensures bound { result.0 + length result.1.now ≤ length items.now }
+    ensures { result.now ≡ filter (λ x. T.line_number x == line) items.now }
 {
     let first = first_from(items, line);
     let end = first_behind(items, line);
-    (first, &items[first..end])
+    &items[first..end]
 }
 
 /// The index of the first that this line or a later one made, or their number where there is none.

@@ -22,7 +22,7 @@ pub fn move_lines(
     ensures { OnOk result (text.new.items ≡ text.old.items
         ++ flat_map (move_line script.now) (moves_at moves.now line)) }
 {
-    for moved in at_line(moves, line).1 {
+    for moved in at_line(moves, line) {
         move_line(text, script, moved)?;
     }
     Ok(())
@@ -48,7 +48,7 @@ pub fn stack_lines(text: &mut Vec<u8>, moves: &[Moved], line: u64) -> Result<(),
     ensures { OnOk result (text.new.items ≡ text.old.items
         ++ flat_map stack_line (moves_at moves.now line)) }
 {
-    for moved in at_line(moves, line).1 {
+    for moved in at_line(moves, line) {
         stack_line(text, moved)?;
     }
     Ok(())

@@ -1,6 +1,6 @@
 //! Printed texts, expected as the form of a report says them.
 
-ghost use Rattle.std.specs.Prelude.{◌≡◌, ◌≤◌, [], ◌∷◌, IfOk};
+ghost use Rattle.std.specs.Prelude.{◌≡◌};
 ghost use Rattle.ad_report.specs.Report.{AreMovesInOrder};
 
 use crate::report;
@@ -35,6 +35,14 @@ move 10 : spent
 stack 11 w0: spent
 map 4 code  region 13105 start 43 pages 5 retired 5 unmapped 1
 end calls 0 moves 2 mappings 1
+";
+
+/// What is printed where the calls of two workers ran in another order than that of the script.
+const SHARED: &str = "call 4 w0 m.sum at 1 under 2: returned 5
+call 5 w1 m.bump at 0 under 2: returned 6
+call 6 w0 m.sum at 3 under 3: trap fault
+call 7 w1 m.bump at 2 under 2: returned 8
+end calls 4 moves 0 mappings 0
 ";
 
 fn place(region: u16, start: u16, pages: u16, mapping: u16) -> Place {
@@ -105,9 +113,7 @@ fn steps(alloc: Global) -> Result<Vec<Step>, OutOfMemory> {
     Ok(steps)
 }
 
-fn entry(line: u64, worker: u64, mapping: u16, notes: Notes, end: End) -> Entry
-    ensures { result.line ≡ line }
-{
+fn entry(line: u64, worker: u64, mapping: u16, notes: Notes, end: End) -> Entry {
     Entry {
         line,
         worker,
@@ -120,9 +126,7 @@ fn entry(line: u64, worker: u64, mapping: u16, notes: Notes, end: End) -> Entry
     }
 }
 
-fn book(alloc: Global, history: History) -> Book
-    ensures { result.history ≡ history }
-{
+fn book(alloc: Global, history: History) -> Book {
     Book {
         writable: Sequence::of(Vec::new(alloc)),
         fixed: Sequence::of(Vec::new(alloc)),
@@ -132,9 +136,7 @@ fn book(alloc: Global, history: History) -> Book
 }
 
 /// The book of a module of which these calls were made.
-fn two_calls(alloc: Global, first: Entry, second: Entry) -> Result<Book, OutOfMemory>
-    ensures { IfOk result (λ book. book.history.entries ≡ first ∷ second ∷ []) }
-{
+fn two_calls(alloc: Global, first: Entry, second: Entry) -> Result<Book, OutOfMemory> {
     let mut history = History::with_room(alloc, 2)?;
     history.push(first);
     history.push(second);
@@ -142,9 +144,7 @@ fn two_calls(alloc: Global, first: Entry, second: Entry) -> Result<Book, OutOfMe
 }
 
 /// The book of a module of which this call was made.
-fn one_call(alloc: Global, only: Entry) -> Result<Book, OutOfMemory>
-    ensures { IfOk result (λ book. book.history.entries ≡ only ∷ []) }
-{
+fn one_call(alloc: Global, only: Entry) -> Result<Book, OutOfMemory> {
     let mut history = History::with_room(alloc, 1)?;
     history.push(only);
     Ok(book(alloc, history))
@@ -226,5 +226,29 @@ fn prints_no_name_for_a_number_out_of_range(rt: HostRuntime) -> Result<(), Fail>
     let rows = [row(Kind::Code, 0, place(13_105, 43, 5, 4), 5, 1)];
     let text = report(alloc, &script, &[], &moves(), &rows)?;
     assert_eq!(rt; std::str::from_utf8(text.as_slice())?, NAMELESS);
+    Ok(())
+}
+
+#[test]
+fn prints_the_calls_of_two_workers_in_the_order_of_the_script(rt: HostRuntime) -> Result<(), Fail> {
+    let alloc = rt.alloc();
+    let steps = vec![in alloc;
+        call(alloc, 4, 0, 0, b"sum")?,
+        call(alloc, 5, 1, 0, b"bump")?,
+        call(alloc, 6, 0, 0, b"sum")?,
+        call(alloc, 7, 1, 0, b"bump")?,
+    ]?;
+    let script = Script {
+        workers: 2,
+        loads: Sequence::of(vec![in alloc; load(alloc, 2, b"m")?]?),
+        steps: Sequence::of(steps),
+    };
+    let mut history = History::with_room(alloc, 4)?;
+    history.push(entry(5, 1, 2, Notes::new(), End::Returned(6)));
+    history.push(entry(4, 0, 2, Notes::new(), End::Returned(5)));
+    history.push(entry(7, 1, 2, Notes::new(), End::Returned(8)));
+    history.push(entry(6, 0, 3, Notes::new(), End::Fault));
+    let text = report(alloc, &script, &[book(alloc, history)], &[], &[])?;
+    assert_eq!(rt; std::str::from_utf8(text.as_slice())?, SHARED);
     Ok(())
 }

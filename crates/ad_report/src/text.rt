@@ -1,11 +1,14 @@
 //! The whole text that is printed of a run.
 
-ghost use Rattle.std.specs.Prelude.{◌≡◌, ◌++◌, All, OnOk, IfOk, length, map, sum_by};
+ghost use Rattle.std.specs.Prelude.{◌≡◌, ◌++◌, [], OnOk, IfOk, length, map, slice_get, sum_by};
 ghost use Rattle.std.specs.List.{flat_map};
+ghost use Rattle.std.specs.Option.{option_map_or};
 ghost use Rattle.ad_base.specs.Book.{contents_of};
-ghost use Rattle.ad_report.specs.Report.{end_line, history_of, report, step_text, AreCallsInOrder, AreMovesInOrder};
+ghost use Rattle.ad_report.specs.Report.{end_line, history_of, report, step_text, AreMovesInOrder};
+ghost use Rattle.ad_report.specs.Private.Index.{AreIndices};
 
 use crate::calls::call_lines;
+use crate::index::{CallAt, indices};
 use crate::mappings::map_lines;
 use crate::moves::{made, move_lines, stack_lines};
 use crate::print::print;
@@ -23,13 +26,13 @@ pub fn report(
     moves: &[Moved],
     rows: &[Row],
 ) -> Result<Vec<u8>, OutOfMemory>
-    requires calls { All AreCallsInOrder (map contents_of books.now) }
-    requires moves { AreMovesInOrder moves.now }
+    requires { AreMovesInOrder moves.now }
     ensures { IfOk result (λ text. text.items
         ≡ report script.now (map contents_of books.now) moves.now rows.now) }
 {
+    let indices = indices(alloc, books)?;
     let mut text = Vec::new(alloc);
-    step_lines(&mut text, script, books, moves)?;
+    step_lines(&mut text, script, books, &indices, moves)?;
     map_lines(&mut text, script, rows)?;
     end_line(&mut text, calls(books), made(moves), rows.len() as u64)?;
     Ok(text)
@@ -40,15 +43,16 @@ fn step_lines(
     text: &mut Vec<u8>,
     script: &Script,
     books: &[Book],
+    indices: &[Vec<CallAt>],
     moves: &[Moved],
 ) -> Result<(), OutOfMemory>
-    requires calls { All AreCallsInOrder (map contents_of books.now) }
+    requires indices { AreIndices (map contents_of books.now) (map (λ v. v.items) indices.now) }
     requires moves { AreMovesInOrder moves.now }
     ensures { OnOk result (text.new.items ≡ text.old.items
         ++ flat_map (step_text script.now (map contents_of books.now) moves.now) script.now.steps) }
 {
     for step in script.steps.as_slice() {
-        step_text(text, script, books, moves, step)?;
+        step_text(text, script, books, indices, moves, step)?;
     }
     Ok(())
 }
@@ -58,10 +62,11 @@ fn step_text(
     text: &mut Vec<u8>,
     script: &Script,
     books: &[Book],
+    indices: &[Vec<CallAt>],
     moves: &[Moved],
     step: &Step,
 ) -> Result<(), OutOfMemory>
-    requires calls { All AreCallsInOrder (map contents_of books.now) }
+    requires indices { AreIndices (map contents_of books.now) (map (λ v. v.items) indices.now) }
     requires moves { AreMovesInOrder moves.now }
     ensures { OnOk result (text.new.items ≡ text.old.items
         ++ step_text script.now (map contents_of books.now) moves.now step.now) }
@@ -74,7 +79,9 @@ fn step_text(
             ..
         } => {
             let name = module_name(script, *module);
-            call_lines(text, name, export.bytes(), history(books, *module), *line)
+            let history = history(books, *module);
+            let calls = calls_of(indices, *module);
+            call_lines(text, name, export.bytes(), history, calls, *line)
         }
         Step::Move { line, .. } => move_lines(text, script, moves, *line),
         Step::Stack { line, .. } => stack_lines(text, moves, *line),
@@ -87,6 +94,16 @@ fn history(books: &[Book], number: u64) -> &[Entry]
 {
     match books.get(number as usize) {
         Some(book) => book.history.as_slice(),
+        None => &[],
+    }
+}
+
+/// The calls of the module of this number in order of their lines, and no call where none has it.
+fn calls_of(indices: &[Vec<CallAt>], number: u64) -> &[CallAt]
+    ensures { result.now ≡ option_map_or (λ v. v.items) (slice_get indices.now number) [] }
+{
+    match indices.get(number as usize) {
+        Some(calls) => calls.as_slice(),
         None => &[],
     }
 }

@@ -5,7 +5,7 @@ use Rattle.std.specs.Str.Parse.{AllDigits, IsNumeral, digits_value}
 use Rattle.std.proofs.lemmas.Str.Ascii.{IsAscii-nil, IsAscii-cons}
 use Rattle.std.proofs.lemmas.Str.Parse.{digit_from_value}
 use Rattle.ad_script.specs.Script.{IsArguments}
-use Rattle.ad_script.specs.Split.{Splits}
+use Rattle.ad_script.specs.Private.Split.{Splits}
 use Rattle.ad_script.proofs.Splitting.{Lacks, Lacks-append, BeginsWith, Splits-joined, Splits-parts, one_split}
 
 -- digits have no byte below the digit 0

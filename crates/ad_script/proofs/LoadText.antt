@@ -3,7 +3,7 @@ use Rattle.std.proofs.Common.{◌≡◌, ℕ, List, [], ◌∷◌, ◌++◌, ref
 use Rattle.std.proofs.lemmas.List.{append_cancel_left}
 use Rattle.ad_base.specs.ExportName.{is_name_byte}
 use Rattle.ad_script.specs.Script.{is_word_byte, IsModuleName, IsFileName}
-use Rattle.ad_script.specs.Split.{Splits}
+use Rattle.ad_script.specs.Private.Split.{Splits}
 use Rattle.ad_script.proofs.Splitting.{Lacks-from_class, Splits-joined, one_split}
 
 -- what stands after `load ` is split after the name

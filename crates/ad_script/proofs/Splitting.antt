@@ -1,7 +1,7 @@
 -- A text is split before the first of some byte in one way.
 use Rattle.std.proofs.Common.{◌≡◌, ℕ, ◌≤◌, Bool, true, false, cond, not, ◌==◌, ltb, List, [], ◌∷◌, ◌++◌, length, take, drop, Option, Some, None, unwrap_or, refl, sym, ap, ◌∙◌, arith, take_at, drop_at, take-append-drop, eqb-true, tests}
 use Rattle.std.specs.List.{AllPass, AllByRecursion, position_or_len}
-use Rattle.ad_script.specs.Split.{Splits}
+use Rattle.ad_script.specs.Private.Split.{Splits}
 use Rattle.std.proofs.lemmas.List.Elements.{All-head, All-tail}
 use Rattle.std.proofs.lemmas.List.Sums.{prefix_len-le-length}
 use Rattle.std.proofs.lemmas.Bool.{false_from_ne_true, true≢false}

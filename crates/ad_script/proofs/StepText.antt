@@ -5,7 +5,7 @@ use Rattle.ad_base.specs.ExportName.{is_name_byte, is_export_byte, IsExportName}
 use Rattle.ad_script.specs.declared.script.Step.{Step}
 use Rattle.ad_script.specs.declared.script.Step.TheVariants.{Call, Move, Stack}
 use Rattle.ad_script.specs.Script.{IsModuleName, IsArguments, IsStepText, line_of}
-use Rattle.ad_script.specs.Split.{Splits}
+use Rattle.ad_script.specs.Private.Split.{Splits}
 use Rattle.ad_script.proofs.Splitting.{Lacks, Lacks-append, Lacks-from_class, Splits-joined, one_split}
 use Rattle.ad_script.proofs.ArgumentText.{arguments_begin, arguments_lack_end, one_arguments}
 

@@ -3,7 +3,7 @@ use Rattle.std.proofs.Common.{◌≡◌, ℕ, ◌+◌, ◌<◌, zero, suc, List,
 use Rattle.std.specs.List.{slice_get}
 use Rattle.ad_script.specs.declared.script.Step.{Step}
 use Rattle.ad_script.specs.Script.{IsModuleName, IsStepText, AreStepsText, line_of}
-use Rattle.ad_script.specs.Split.{Splits}
+use Rattle.ad_script.specs.Private.Split.{Splits}
 use Rattle.ad_script.proofs.Splitting.{Splits-joined, Splits-parts, one_split}
 use Rattle.ad_script.proofs.StepText.{step_ended, one_step}
 

@@ -30,6 +30,6 @@ pub fn law_most_lines()
 {}
 
 /// The name of a file is ASCII, and so it is text.
-pub fn law_file_names_are_text()
+pub(crate) fn law_file_names_are_text()
     ensures { (name : List ℕ) → IsFileName name → IsUtf8 name }
 {}

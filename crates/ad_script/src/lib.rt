@@ -9,7 +9,8 @@ mod read;
 mod script;
 mod split;
 
-pub use laws::{law_file_names_are_text, law_in_range, law_lines, law_most_lines, law_one_script};
+pub use laws::{law_in_range, law_lines, law_most_lines, law_one_script};
+pub use names::file_text;
 pub use read::read_script;
 pub use script::{Load, Members, SCRIPT_LINES, Script, Step};
 

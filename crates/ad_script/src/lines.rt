@@ -4,7 +4,7 @@ ghost use Rattle.std.specs.Prelude.{◌≡◌, ◌≤◌, ℕ, List, [], ◌∷�
 ghost use Rattle.ad_base.specs.ExportName.{IsExportName};
 ghost use Rattle.ad_script.specs.declared.script.Step.{Step};
 ghost use Rattle.ad_script.specs.Script.{IsModuleName, IsFileName, IsArguments, IsStepText, line_of};
-ghost use Rattle.ad_script.specs.Split.{Splits};
+ghost use Rattle.ad_script.specs.Private.Split.{Splits};
 
 use crate::arguments::arguments;
 use crate::names::{is_file_name, is_module_name};

@@ -1,7 +1,7 @@
 //! A text is cut at its front, or before a byte.
 
 ghost use Rattle.std.specs.Prelude.{◌≡◌, ◌≢◌, ℕ, List, ◌++◌, MatchOption};
-ghost use Rattle.ad_script.specs.Split.{Splits};
+ghost use Rattle.ad_script.specs.Private.Split.{Splits};
 
 /// What stands after this text, where the bytes begin with it.
 pub fn strip_front<'a>(bytes: &'a [u8], text: &[u8]) -> Option<&'a [u8]>

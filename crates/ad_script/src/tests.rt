@@ -1,13 +1,10 @@
 //! Scripts that have the form and texts that have another, and each call once with memory.
 
-ghost use Rattle.std.specs.Prelude.{◌≡◌};
-ghost use Rattle.ad_script.specs.Script.{IsFileName};
-
 use crate::{
-    SCRIPT_LINES, Step, law_file_names_are_text, law_in_range, law_lines, law_most_lines,
-    law_one_script, read_script,
+    SCRIPT_LINES, Step, file_text, law_in_range, law_lines, law_most_lines, law_one_script,
+    read_script,
 };
-use ad_base::{Name, OutOfMemory};
+use ad_base::OutOfMemory;
 use std::alloc::Global;
 use std::test::Fail;
 
@@ -170,16 +167,4 @@ fn laws_are_called() {
     law_in_range();
     law_lines();
     law_most_lines();
-}
-
-/// The name of a file as text, as a caller makes it.
-fn file_text(name: &Name) -> &str
-    requires { IsFileName name.now }
-    ensures { result.now ≡ name.now }
-{
-    law_file_names_are_text();
-    match std::str::from_utf8(name.bytes()) {
-        Ok(text) => text,
-        Err(_) => unreachable!(),
-    }
 }

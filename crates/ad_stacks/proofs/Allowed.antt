@@ -16,7 +16,7 @@ use Rattle.ad_stacks.specs.declared.view.Stage.{Stage}
 use Rattle.ad_stacks.specs.declared.view.Stage.TheVariants as stage
 use Rattle.ad_stacks.specs.declared.view.Doing.{Doing}
 use Rattle.ad_stacks.specs.declared.view.Doing.TheVariants.{Spent, Worker, Mover}
-use Rattle.ad_stacks.specs.Account.{Event, takes_of, NeverFall}
+use Rattle.ad_stacks.specs.History.{Event, takes_of, NeverFall}
 use Rattle.ad_stacks.specs.Rule.{St, Kept}
 use Rattle.ad_stacks.specs.StackPlace.{place_at, record_word}
 use Rattle.ad_stacks.specs.Steps.{Sat, hand, taken_by, after_take, after_put, after_gone, after_record, after_refresh, after_mark, replacing, to_mark, after_deal, given_off, after_join, Takes, Refreshes}

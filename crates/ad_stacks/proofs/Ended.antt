@@ -11,6 +11,7 @@ use Rattle.atomic_table.specs.Table.{Final, Seen}
 use Rattle.ad_base.specs.declared.ledger.Kind.TheVariants.{Stack}
 use Rattle.ad_base.specs.declared.ledger.Row.{Row}
 use Rattle.ad_base.specs.declared.place.Place.{Place}
+use Rattle.ad_base.specs.Ledger.{IsUnmappedOnce}
 use Rattle.ad_base.specs.Place.{packed}
 use Rattle.ad_stacks.specs.declared.view.Given.{Given}
 use Rattle.ad_stacks.specs.declared.view.Hand.{Hand}
@@ -22,15 +23,15 @@ use Rattle.ad_stacks.specs.declared.view.Stage.TheVariants as stage
 use Rattle.ad_stacks.specs.declared.view.Doing.TheVariants.{Mover}
 use Rattle.ad_stacks.specs.Names.{Record, Mark}
 use Rattle.ad_stacks.specs.StackPlace.{place_at, record_word, IsStackPlace, IsStackWord}
-use Rattle.ad_stacks.specs.Account.{Status, unmade, in_lane, held, gone, status, held_of, takes_of, line_of, openings_of, refreshes_of}
+use Rattle.ad_stacks.specs.History.{Status, unmade, in_lane, held, gone, status, held_of, takes_of, line_of, openings_of, refreshes_of}
 use Rattle.ad_stacks.specs.Rule.{St, Kept, Records, Counts, IsOwed, IsMoverOwed, IsRecorded, IsUnmarked, holding}
 use Rattle.ad_stacks.specs.Steps.{Sat, hand}
-use Rattle.ad_stacks.specs.Ledger.{all_given, rows_given, by_number, row_of, HaveHistory, HaveRows}
+use Rattle.ad_stacks.specs.Ledger.{all_given, by_number, AreRows, HaveHistory, HaveRows}
 use Rattle.ad_stacks.specs.Seen.{SeatSeen}
 use Rattle.ad_stacks.specs.Private.Handles.{gathered_plan}
 use Rattle.ad_stacks.specs.Private.Rows.{row_at, row_in, rows_in, hand_of, AreRecords}
 use Rattle.ad_stacks.proofs.Numbers.{place_at-packed, packed_small, record_some, number_fits}
-use Rattle.ad_stacks.proofs.Rows.{given, row_by, history_rows, IsAtPlace, takes_are}
+use Rattle.ad_stacks.proofs.Rows.{given, row_by, row_of, rows_given, are_rows, rows_once, history_rows, IsAtPlace, takes_are}
 use Rattle.ad_stacks.proofs.Sound.{at_status}
 use Rattle.ad_stacks.proofs.StepLaws.{sound, lanes_are}
 
@@ -174,7 +175,8 @@ module _ (openings : List Place) (s : St) (r : Kept openings s) (quiet : (w : �
 -- what is known of a closed table
 pub record IsEnded (openings : List Place) (refreshes : List Given) (seats : List SeatSeen) (words : List ℕ) : Type 0 where
   pub records : AreRecords words
-  pub rows : rows_in words 4096 ≡ by_number (rows_given (all_given openings refreshes)) 4096
+  pub rows : AreRows openings refreshes (rows_in words 4096)
+  pub once : All IsUnmappedOnce (rows_in words 4096)
   pub taken : HaveRows (rows_in words 4096) seats
   pub history : HaveHistory openings refreshes seats
 
@@ -229,9 +231,11 @@ module _ (openings : List Place) (s : St) (r : Kept openings s) (id : ℕ) (q : 
   ends : IsEnded openings q.made seats s.words
   ends =
       let idle = know plan_is in
-      let made : q.made ≡ refreshes_of r.past = ap (λ (x : Plan). x.made) plan_is ∙ r.planned.made in record {
+      let made : q.made ≡ refreshes_of r.past = ap (λ (x : Plan). x.made) plan_is ∙ r.planned.made in
+      let are : rows_in s.words 4096 ≡ by_number (rows_given (all_given openings q.made)) 4096 = all_rows openings s r at_rest idle 4096 (omega arith) ∙ (λ i. by_number (rows_given (all_given (r.opened i) (sym made i))) 4096) in record {
         records = all_records openings s r at_rest idle;
-        rows = all_rows openings s r at_rest idle 4096 (omega arith) ∙ (λ i. by_number (rows_given (all_given (r.opened i) (sym made i))) 4096);
+        rows = are_rows openings q.made (rows_in s.words 4096) are;
+        once = rows_once (all_given openings q.made) (rows_in s.words 4096) 4096 are;
         taken = λ w. if_seat (λ x. All (λ (p : Place). Any (λ (y : Row). (y.who ≡ w) × (y.place ≡ p)) (rows_in s.words 4096)) x.taken) w
             (λ x e. subst (All (λ (p : Place). Any (λ (y : Row). (y.who ≡ w) × (y.place ≡ p)) (rows_in s.words 4096))) (sym (came_back w x e).1) (taken_rows openings s r at_rest idle w));
         history = record {

@@ -6,7 +6,7 @@ use Rattle.ad_stacks.specs.declared.view.Stance.TheVariants as stance
 use Rattle.ad_stacks.specs.declared.view.Stage.{Stage}
 use Rattle.ad_stacks.specs.declared.view.Stage.TheVariants as stage
 use Rattle.ad_stacks.specs.Names.{changed}
-use Rattle.ad_stacks.specs.Account.{Event, Status, unmade, in_lane, held, gone, status, line_of, AreBelow}
+use Rattle.ad_stacks.specs.History.{Event, Status, unmade, in_lane, held, gone, status, line_of, AreBelow}
 use Rattle.ad_stacks.specs.Rule.{IsOwed, IsMoverOwed, IsRecorded, Counts, Records, OwesGone, IsGone, StageStands}
 use Rattle.ad_stacks.proofs.Changed.{changed_here, changed_else, either_way}
 

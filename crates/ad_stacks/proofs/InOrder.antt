@@ -4,8 +4,8 @@ use mathlib.Core.Logic.{dite}
 use native.Mathlib.Decide.{dec_lt, ℕ_discrete}
 use Rattle.std.specs.List.{filter, All, AllPairs}
 use Rattle.ad_base.specs.declared.ledger.Row.{Row}
-use Rattle.ad_stacks.specs.declared.view.Given.{Given}
-use Rattle.ad_stacks.specs.Ledger.{by_number, rows_given}
+use Rattle.ad_base.specs.Ledger.{IsLedger, Mapping}
+use Rattle.ad_stacks.specs.Ledger.{by_number}
 
 abbrev has : ℕ → Row → Bool
 has m r = eqb r.mapping m
@@ -84,18 +84,24 @@ unfolding below
 below_all n [] h = refl
 below_all n (r ∷ rs) h = elim (dec_lt r.mapping n) as (λ d. front d r (below n rs) ≡ r ∷ rs) [ yes _ ↦ ap (λ (xs : List Row). r ∷ xs) (below_all n rs h.1) | no f ↦ absurd (f h.0) ]
 
--- the rows of stacks whose numbers rise
-rows_above : (m : ℕ) (gs : List Given) → ((k : ℕ) (d : Given) → k < length gs → m < (get_or gs k d).place.mapping) → AreAbove m (rows_given gs)
-rows_above m [] h = tt
-rows_above m (g ∷ gs) h = (h 0 g (omega arith), rows_above m gs (λ k d l. h (suc k) d (omega arith)))
+-- the rows of mappings whose numbers rise
+rows_above : (n : ℕ) (ms : List Mapping) (rs : List Row) → IsLedger ms rs → ((k : ℕ) (d : Mapping) → k < length ms → n < (get_or ms k d).place.mapping) → AreAbove n rs
+rows_above n [] rs are h = subst (AreAbove n) (sym are) tt
+rows_above n (m ∷ ms) [] are h = absurd are
+rows_above n (m ∷ ms) (r ∷ rs) are h = (let e = are.0.number in let l = h 0 m (omega arith) in omega arith, rows_above n ms rs are.1 (λ k d l. h (suc k) d (omega arith)))
 
-rows_rise : (gs : List Given) → AllPairs (λ (g h : Given). g.place.mapping < h.place.mapping) gs → Rise (rows_given gs)
-rows_rise [] h = tt
-rows_rise (g ∷ gs) h = (rows_above g.place.mapping gs (λ k d l. h 0 (suc k) d (omega arith) (omega arith)), rows_rise gs (λ i j d low l. h (suc i) (suc j) d (omega arith) (omega arith)))
+rows_rise : (ms : List Mapping) (rs : List Row) → IsLedger ms rs → AllPairs (λ (m k : Mapping). m.place.mapping < k.place.mapping) ms → Rise rs
+rows_rise [] rs are h = subst Rise (sym are) tt
+rows_rise (m ∷ ms) [] are h = absurd are
+rows_rise (m ∷ ms) (r ∷ rs) are h = (
+  rows_above r.mapping ms rs are.1 (λ k d l. let e = are.0.number in let a = h 0 (suc k) d (omega arith) (omega arith) in omega arith),
+  rows_rise ms rs are.1 (λ i j d low l. h (suc i) (suc j) d (omega arith) (omega arith)),
+)
 
-rows_below : (n : ℕ) (gs : List Given) → All (λ (g : Given). g.place.mapping < n) gs → AllBelow n (rows_given gs)
-rows_below n [] h = tt
-rows_below n (g ∷ gs) h = (h 0 g (omega arith), rows_below n gs (λ k d l. h (suc k) d (omega arith)))
+rows_below : (n : ℕ) (ms : List Mapping) (rs : List Row) → IsLedger ms rs → All (λ (m : Mapping). m.place.mapping < n) ms → AllBelow n rs
+rows_below n [] rs are h = subst (AllBelow n) (sym are) tt
+rows_below n (m ∷ ms) [] are h = absurd are
+rows_below n (m ∷ ms) (r ∷ rs) are h = (let e = are.0.number in let l = h 0 m (omega arith) in omega arith, rows_below n ms rs are.1 (λ k d l. h (suc k) d (omega arith)))
 
-pub in_order : (gs : List Given) (n : ℕ) → AllPairs (λ (g h : Given). g.place.mapping < h.place.mapping) gs → All (λ (g : Given). g.place.mapping < n) gs → by_number (rows_given gs) n ≡ rows_given gs
-in_order gs n rise low = numbered (rows_given gs) (rows_rise gs rise) n ∙ below_all n (rows_given gs) (rows_below n gs low)
+pub in_order : (ms : List Mapping) (rs : List Row) (n : ℕ) → IsLedger ms rs → AllPairs (λ (m k : Mapping). m.place.mapping < k.place.mapping) ms → All (λ (m : Mapping). m.place.mapping < n) ms → by_number rs n ≡ rs
+in_order ms rs n are rise low = numbered rs (rows_rise ms rs are rise) n ∙ below_all n rs (rows_below n ms rs are low)

@@ -15,7 +15,7 @@ use Rattle.ad_stacks.specs.declared.view.Doing.{Doing}
 use Rattle.ad_stacks.specs.declared.view.Doing.TheVariants.{Mover}
 use Rattle.ad_stacks.specs.Names.{Name, Lane, Record, Mark, index, read, IsName, Words, AreWords, wrote, changed}
 use Rattle.ad_stacks.specs.StackPlace.{lane_word, record_word, IsStackPlace}
-use Rattle.ad_stacks.specs.Account.{Event, unmade, in_lane, status, lane_of, held_of, takes_of, line_of, newest, openings_of, refreshes_of, AreLawful}
+use Rattle.ad_stacks.specs.History.{Event, unmade, in_lane, status, lane_of, held_of, takes_of, line_of, newest, openings_of, refreshes_of, AreLawful}
 use Rattle.ad_stacks.specs.Rule.{Kept, Records, Knows, starting}
 use Rattle.ad_stacks.specs.Private.Opening.{nowhere, place_of_lane, opening_events, laid}
 use Rattle.ad_stacks.proofs.Changed.{changed_here, changed_else, at_changed, either_way}

@@ -1,4 +1,4 @@
--- How the account is read off the words and the views.
+-- How the state is read off the words and the views.
 use Rattle.std.proofs.Common.{◌≡◌, ◌⊎◌, inl, inr, ℕ, cond, not, ◌&&◌, ◌+◌, ◌*◌, ◌^◌, ◌<◌, ◌≤◌, List, [], ◌∷◌, length, get_or, Option, None, Some, sym, refl, ap, ◌∙◌, subst, arith}
 use mathlib.Core.Option.{some}
 use mathlib.Core.Logic.{dite}
@@ -15,7 +15,7 @@ use Rattle.ad_stacks.specs.declared.view.Doing.{Doing}
 use Rattle.ad_stacks.specs.declared.view.Doing.TheVariants.{Spent, Worker, Mover}
 use Rattle.ad_stacks.specs.Names.{Lane, Record}
 use Rattle.ad_stacks.specs.StackPlace.{record_word}
-use Rattle.ad_stacks.specs.Account.{Event, Status, unmade, in_lane, held, gone, status, takes_of, line_of, AreLawful}
+use Rattle.ad_stacks.specs.History.{Event, Status, unmade, in_lane, held, gone, status, takes_of, line_of, AreLawful}
 use Rattle.ad_stacks.specs.Rule.{St, Kept, Records, Counts, IsOwed, IsMoverOwed, IsNumberOf, IsRecorded, IsGone, OwesGone, StageStands, holding}
 use Rattle.ad_stacks.specs.Steps.{hand}
 use Rattle.ad_stacks.specs.Reading.{OwesMapping, IsOwedBySome, ReadingLaw, HeldLaw, IsQuiet, IsGoneOnce, QuietLaw, LanesLaw, HandsLaw, NumbersLaw, is_gone, times_gone, GoneOnceLaw}

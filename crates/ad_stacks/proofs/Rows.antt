@@ -1,18 +1,69 @@
--- The rows of all stacks given are those that the history says, number by number.
-use Rattle.std.proofs.Common.{◌≡◌, ◌≢◌, ℕ, Bool, true, false, cond, eqb, eq-eqb, ne_eqb, ◌==◌, ◌+◌, ◌<◌, List, [], ◌∷◌, ◌++◌, append_assoc, append-nil, length, Option, None, Some, is_some, sym, refl, ap, ◌∙◌, subst, arith}
-use Rattle.std.specs.List.{filter, All}
-use Rattle.std.proofs.lemmas.List.Elements.{filter-append, All-push}
+-- The rows of all stacks given are their ledger, and those that the history says, number by number.
+use Rattle.std.proofs.Common.{◌≡◌, ◌≢◌, ℕ, zero, suc, if◌then◌else◌, map, Bool, true, false, cond, eqb, eq-eqb, ne_eqb, ◌==◌, ◌+◌, ◌<◌, List, [], ◌∷◌, ◌++◌, append_assoc, append-nil, length, Option, None, Some, is_some, sym, refl, ap, ◌∙◌, subst, arith}
+use Rattle.std.specs.List.{filter, find, All}
+use Rattle.std.specs.Option.{option_map_or}
+use Rattle.std.proofs.lemmas.List.Elements.{filter-append, All-nil, All-cons, All-append, All-filter, All-push}
+use Rattle.ad_base.specs.declared.ledger.Kind.TheVariants.{Stack}
 use Rattle.ad_base.specs.declared.ledger.Row.{Row}
 use Rattle.ad_base.specs.declared.place.Place.{Place}
+use Rattle.ad_base.specs.Ledger.{IsLedger, IsUnmappedOnce, Mapping, is_same_thing, retired_line}
 use Rattle.ad_stacks.specs.declared.view.Given.{Given}
 use Rattle.ad_stacks.specs.Names.{changed}
-use Rattle.ad_stacks.specs.Account.{Event, opened, took, put, refreshed, Status, unmade, in_lane, held, gone, replaced, status, lane_of, held_of, openings_of, refreshes_of, takes_of, newest, line_of, AreLawful}
-use Rattle.ad_stacks.specs.Ledger.{given_from, all_given, next_lines, row_of, rows_given}
+use Rattle.ad_stacks.specs.History.{Event, opened, took, put, refreshed, Status, unmade, in_lane, held, gone, replaced, status, lane_of, held_of, openings_of, refreshes_of, takes_of, newest, line_of, AreLawful}
+use Rattle.ad_stacks.specs.Ledger.{given_from, all_given, by_number, stack_mapping, AreRows}
 use Rattle.ad_stacks.proofs.Changed.{changed_here, changed_else, at_changed, either_way}
 use Rattle.ad_stacks.proofs.Sound.{Sound, sound_of, at_status, lanes, IsOf, settled, below_unmade}
 
 abbrev pub given : ℕ → Place → ℕ → Given
 given w p line = record { lane = w; place = p; line = line }
+
+-- ---- the ledger of some stacks that were given
+-- the line in which each lane is given the first of these stacks, or 0 where it is given none
+abbrev next_lines : List Given → ℕ → ℕ
+next_lines [] w = 0
+next_lines (g ∷ later) w = changed (next_lines later) g.lane g.line w
+
+-- the row of a stack that was replaced in this line, or never, which is 0
+abbrev pub row_of : Given → ℕ → Row
+row_of g line = record { mapping = g.place.mapping; kind = Stack; who = g.lane; place = g.place; line = line; unmaps = if line == 0 then 0 else 1 }
+
+abbrev pub rows_given : List Given → List Row
+rows_given [] = []
+rows_given (g ∷ later) = row_of g (next_lines later g.lane) ∷ rows_given later
+
+next_retires : (g : Given) (later : List Given) → next_lines later g.lane ≡ retired_line (stack_mapping g) (map stack_mapping later)
+next_retires g [] = refl
+next_retires g (h ∷ later) = either_way g.lane h.lane
+    (λ e. changed_here (next_lines later) h.lane h.line g.lane e ∙ sym (ap (λ (b : Bool). option_map_or (λ (n : Mapping). n.line) (cond b (Some (stack_mapping h)) (find (is_same_thing (stack_mapping g)) (map stack_mapping later))) 0) (eq-eqb g.lane h.lane e)))
+    (λ ne. changed_else (next_lines later) h.lane h.line g.lane ne ∙ (next_retires g later ∙ sym (ap (λ (b : Bool). option_map_or (λ (n : Mapping). n.line) (cond b (Some (stack_mapping h)) (find (is_same_thing (stack_mapping g)) (map stack_mapping later))) 0) (ne_eqb g.lane h.lane ne))))
+
+ledger_given : (gs : List Given) → IsLedger (map stack_mapping gs) (rows_given gs)
+ledger_given [] = refl
+ledger_given (g ∷ later) = (record { number = refl; kind = refl; who = refl; place = refl; line = next_retires g later }, ledger_given later)
+
+-- what was replaced was unmapped once, and nothing else was
+once_of : (g : Given) (line : ℕ) → IsUnmappedOnce (row_of g line)
+once_of g line = record {
+  once = λ some_line. ap (λ (b : Bool). cond b 0 1) (ne_eqb line 0 some_line);
+  never = λ e. ap (λ (b : Bool). cond b 0 1) (eq-eqb line 0 e);
+}
+
+all_once : (gs : List Given) → All IsUnmappedOnce (rows_given gs)
+all_once [] = All-nil IsUnmappedOnce
+all_once (g ∷ later) = All-cons IsUnmappedOnce (row_of g (next_lines later g.lane)) (rows_given later) (once_of g (next_lines later g.lane)) (all_once later)
+
+ordered_once : (rows : List Row) → All IsUnmappedOnce rows → (n : ℕ) → All IsUnmappedOnce (by_number rows n)
+unfolding by_number
+ordered_once rows h zero = All-nil IsUnmappedOnce
+ordered_once rows h (suc n) = All-append IsUnmappedOnce (by_number rows n) (filter (λ (r : Row). r.mapping == n) rows) (ordered_once rows h n) (All-filter (λ (r : Row). r.mapping == n) IsUnmappedOnce rows h)
+
+pub rows_once : (gs : List Given) (rows : List Row) (n : ℕ) → rows ≡ by_number (rows_given gs) n → All IsUnmappedOnce rows
+rows_once gs rows n e = subst (All IsUnmappedOnce) (sym e) (ordered_once (rows_given gs) (all_once gs) n)
+
+pub are_rows : (openings : List Place) (refreshes : List Given) (rows : List Row) → rows ≡ by_number (rows_given (all_given openings refreshes)) 4096 → AreRows openings refreshes rows
+are_rows openings refreshes rows e = record { listed = rows_given (all_given openings refreshes); ledger = ledger_given (all_given openings refreshes); in_order = e }
+
+-- ---- they are what the history says
 
 -- the stacks given so far, in order
 abbrev gifts : List Event → List Given

@@ -9,7 +9,7 @@ use Rattle.ad_stacks.specs.declared.view.Stance.{Stance}
 use Rattle.ad_stacks.specs.declared.view.Plan.{Plan}
 use Rattle.ad_stacks.specs.declared.view.Doing.{Doing}
 use Rattle.ad_stacks.specs.declared.view.Doing.TheVariants.{Spent, Worker, Mover}
-use Rattle.ad_stacks.specs.Account.{Event, takes_of}
+use Rattle.ad_stacks.specs.History.{Event, takes_of}
 use Rattle.ad_stacks.specs.Rule.{Knows, Seated}
 use Rattle.ad_stacks.specs.Steps.{hand}
 use Rattle.ad_stacks.proofs.Changed.{either_way}

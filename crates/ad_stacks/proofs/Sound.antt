@@ -8,7 +8,7 @@ use Rattle.std.proofs.Math.Seq.{get_or-append_seam}
 use Rattle.ad_base.specs.declared.place.Place.{Place}
 use Rattle.ad_stacks.specs.declared.view.Given.{Given}
 use Rattle.ad_stacks.specs.StackPlace.{IsStackPlace}
-use Rattle.ad_stacks.specs.Account.{Event, opened, took, put, refreshed, Status, unmade, in_lane, held, gone, replaced, status, lane_of, held_of, openings_of, refreshes_of, takes_of, newest, line_of, AreBelow, MayOpen, MayTake, MayPut, MayRefresh, IsAbove, Lawful, AreLawful, NeverFall}
+use Rattle.ad_stacks.specs.History.{Event, opened, took, put, refreshed, Status, unmade, in_lane, held, gone, replaced, status, lane_of, held_of, openings_of, refreshes_of, takes_of, newest, line_of, AreBelow, MayOpen, MayTake, MayPut, MayRefresh, IsAbove, Lawful, AreLawful, NeverFall}
 use Rattle.ad_stacks.proofs.Changed.{changed_here, changed_else, at_changed, either_way}
 
 -- so many lanes were opened

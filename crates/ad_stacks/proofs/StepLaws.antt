@@ -5,6 +5,7 @@ use Rattle.std.proofs.Math.ListN.{length-set}
 use Rattle.std.proofs.lemmas.List.{get_or-set_same, get_or-set_other}
 use lib.ListN.{get_elem?}
 use prog.Atomic.{either}
+use Rattle.atomic_table.specs.Table.{keeps, stepped}
 use Rattle.atomic_table.proofs.Lists.{at_longer, at_last}
 use Rattle.ad_base.specs.declared.place.Place.{Place}
 use Rattle.ad_base.specs.Place.{packed}
@@ -16,11 +17,11 @@ use Rattle.ad_stacks.specs.declared.view.Stance.TheVariants as stance
 use Rattle.ad_stacks.specs.declared.view.Stage.{Stage}
 use Rattle.ad_stacks.specs.declared.view.Stage.TheVariants as stage
 use Rattle.ad_stacks.specs.declared.view.Doing.{Doing}
-use Rattle.ad_stacks.specs.declared.view.Doing.TheVariants.{Worker, Mover}
-use Rattle.ad_stacks.specs.Names.{Lane, Record, Mark, changed, wrote}
+use Rattle.ad_stacks.specs.declared.view.Doing.TheVariants.{Spent, Worker, Mover}
+use Rattle.ad_stacks.specs.Names.{Name, Lane, Record, Mark, IsName, index, changed, wrote}
 use Rattle.ad_stacks.specs.StackPlace.{place_at, lane_word, lane_place, record_word, IsStackWord}
-use Rattle.ad_stacks.specs.Account.{Event, took, put, refreshed, Status, unmade, in_lane, held, gone, replaced, status, lane_of, held_of, takes_of, line_of, newest, openings_of, refreshes_of, MayTake, MayPut, MayRefresh, AreBelow, IsAbove}
-use Rattle.ad_stacks.specs.Rule.{St, Kept, Records, Counts, Knows, Seated, Dealt, PlanStands, StageStands, IsOwed, IsMoverOwed, IsRecorded, IsUnmarked, OwesGone, IsNumberOf, IsGone, holding}
+use Rattle.ad_stacks.specs.History.{Event, took, put, refreshed, Status, unmade, in_lane, held, gone, replaced, status, lane_of, held_of, takes_of, line_of, newest, openings_of, refreshes_of, MayTake, MayPut, MayRefresh, AreBelow, AreLawful, IsAbove}
+use Rattle.ad_stacks.specs.Rule.{St, Kept, Records, Counts, Knows, Seated, Dealt, LaneStands, PlanStands, StageStands, IsOwed, IsMoverOwed, IsRecorded, IsUnmarked, OwesGone, IsNumberOf, IsGone, holding}
 use Rattle.ad_stacks.specs.Steps.{hand, put_back, gathering, dealing, replacing, marked, owing}
 use Rattle.ad_stacks.specs.Laws.{TakeLaw, PutLaw, GoneLaw, MoverGoneLaw, RecordLaw, RefreshLaw, MarkLaw, SplitLaw, JoinLaw, counted, Adds, Stays, moved}
 use Rattle.ad_stacks.proofs.Changed.{changed_here, changed_else, at_changed, either_way}
@@ -29,6 +30,15 @@ use Rattle.ad_stacks.proofs.Numbers.{place_at-packed, packed_some, stack_word, c
 use Rattle.ad_stacks.proofs.Seats.{worker_steps, mover_steps, mover_splits, mover_joins, worker_sits, mover_sits, split_sits, join_sits}
 use Rattle.ad_stacks.proofs.Sound.{Sound, sound_of, at_status, gone_stays, below_unmade, are_below, newest_below, refreshed_status}
 use Rattle.ad_stacks.proofs.Writes.{writes}
+
+-- what a worker's event, or none, leaves as it was
+record Leaves (past past' : List Event) : Type 0 where
+  stays : GoneStays past past'
+  opened : openings_of past' ≡ openings_of past
+  refreshes : refreshes_of past' ≡ refreshes_of past
+  newest : (w : ℕ) → newest past' w ≡ newest past w
+  below : (m : ℕ) → AreBelow past m → AreBelow past' m
+  lines : (m : ℕ) → line_of past' m ≡ line_of past m
 
 -- ---- what a seat knows of the table
 module _ (openings : List Place) (s : St) (r : Kept openings s) where
@@ -70,6 +80,46 @@ module _ (openings : List Place) (s : St) (r : Kept openings s) where
     back = λ v l. let t = rest v (λ e. omega arith) in let u = r.dealt.back v l in (t.0 ∙ u.0, u.1 ∙ (λ i. some (hand stance.Rest (sym t.1 i))));
   }
 
+  -- a worker's step: it writes to the word of a name, and the worker's stance and takes become these
+  module _ (id w : ℕ) (d : Stance) (taken : List Place) (at : get_elem? s.views id ≡ some (Worker w (hand d taken))) (name : Name) (x : ℕ) (d' : Stance) (taken' : List Place) (past' : List Event) where
+    worker_writes : IsName name → Leaves r.past past' → AreLawful past' → takes_of past' w ≡ taken' → ((v : ℕ) → v ≢ w → takes_of past' v ≡ takes_of r.past v)
+        → ((v : ℕ) → LaneStands (wrote r.words name x).lane past' v (changed r.stances w d' v))
+        → ((m : ℕ) → Records (wrote r.words name x).recorded (changed r.stances w d') r.plan.stage m (status past' m))
+        → ((m : ℕ) → AreBelow r.past m → (wrote r.words name x).recorded m ≡ r.words.recorded m)
+        → ((m : ℕ) → (wrote r.words name x).mark m ≡ r.words.mark m)
+        → (r' : Kept openings (stepped s (index name) x id [] (Worker w (hand d' taken')) keeps)) × (r'.past ≡ past')
+    worker_writes named leaves lawful takes others lanes records kept marks =
+        let k = mine id w d taken at in
+        let stances' : ℕ → Stance = changed r.stances w d' in
+        let is : hand d' taken' ≡ hand (stances' w) (takes_of past' w) = λ i. hand (sym (changed_here r.stances w d' w refl) i) (sym takes i) in
+        let rest : (v : ℕ) → v ≢ w → (stances' v ≡ r.stances v) × (takes_of past' v ≡ takes_of r.past v) = λ v ne. (changed_else r.stances w d' v ne, others v ne) in (
+          record {
+            words = wrote r.words name x;
+            past = past';
+            stances = stances';
+            owner = r.owner;
+            plan = r.plan;
+            mover = r.mover;
+            few = r.few;
+            reads = writes s.words r.words name x named r.reads;
+            lawful = lawful;
+            opened = leaves.opened ∙ r.opened;
+            each_lane = lanes;
+            each_record = records;
+            each_mark = λ m free. marks m ∙ (r.each_mark m free ∙ sym (leaves.lines m));
+            each_seat = worker_steps r.past r.stances r.owner r.plan r.mover s.views r.each_seat past' stances' id w (hand d taken) (hand d' taken') at is rest;
+            seated = worker_sits r.past r.stances r.owner r.plan r.mover s.views r.seated past' stances' id w (hand d taken) (hand d' taken') at k.2 is rest;
+            dealt = same_dealt past' stances' w k.0 k.1 rest;
+            planned = record {
+              made = r.planned.made ∙ sym leaves.refreshes;
+              wide = r.planned.wide;
+              newest = λ v l. r.planned.newest v l ∙ sym (leaves.newest v);
+              stage = stage_stays r.words.recorded (wrote r.words name x).recorded r.past past' (length openings) leaves.stays leaves.below leaves.lines kept r.plan.stage r.planned.stage;
+            };
+          },
+          refl,
+        )
+
 -- ---- take
 -- what a take finds: the word of the stack that is In the lane
 pub take_found : (openings : List Place) (s : St) (r : Kept openings s) (id w : ℕ) (taken : List Place) → get_elem? s.views id ≡ some (Worker w (hand stance.Rest taken))
@@ -93,57 +143,32 @@ take_law openings s r id w taken at =
     take_with : (openings : List Place) (s : St) (r : Kept openings s) (id w : ℕ) (taken : List Place) (at : get_elem? s.views id ≡ some (Worker w (hand stance.Rest taken))) (q : Place) → lane_of r.past w ≡ Some q → held_of r.past w ≡ None
         → Adds openings s r (moved s id (Lane w) (λ _. 0) (Worker w (hand (stance.Holds q) (taken ++ q ∷ [])))) (took w q)
     take_with openings s r id w taken at q lane_is free =
-        let k = mine openings s r id w stance.Rest taken at in
-        let snd = sound openings s r in
-        let is_in = ((snd.lane w).inside q lane_is).0 in
+        let is_in = (((sound openings s r).lane w).inside q lane_is).0 in
         let may : MayTake r.past w q = record { is_in = is_in; free = free } in
         let past' : List Event = took w q ∷ r.past in
-        let stances' : ℕ → Stance = changed r.stances w (stance.Holds q) in
         let stays : GoneStays r.past past' = gone_stays (took w q) r.past r.lawful may in
-        let rest : (v : ℕ) → v ≢ w → (stances' v ≡ r.stances v) × (takes_of past' v ≡ takes_of r.past v) = λ v ne. (changed_else r.stances w (stance.Holds q) v ne, changed_else (takes_of r.past) w (takes_of r.past w ++ q ∷ []) v ne) in
         let not_owed : (m : ℕ) → IsOwed (r.stances w) m → ⊥ = λ m. subst (λ (x : Stance). IsOwed x m → ⊥) (sym (stance_is openings s r id w stance.Rest taken at)) (λ o. o) in (
           may,
-          (
-            record {
-              words = wrote r.words (Lane w) 0;
-              past = past';
-              stances = stances';
-              owner = r.owner;
-              plan = r.plan;
-              mover = r.mover;
-              few = r.few;
-              reads = writes s.words r.words (Lane w) 0 (lane_few openings s r id w stance.Rest taken at) r.reads;
-              lawful = (may, r.lawful);
-              opened = r.opened;
-              each_lane = λ v. let old = r.each_lane v in either_way v w
-                  (λ e. record {
-                    word = changed_here r.words.lane w 0 v e ∙ ap lane_word (sym (changed_here (lane_of r.past) w None v e));
-                    holds = changed_here (held_of r.past) w (Some q) v e ∙ ap holding (sym (changed_here r.stances w (stance.Holds q) v e));
-                    owes = subst (OwesGone past' v) (sym (changed_here r.stances w (stance.Holds q) v e)) tt;
-                  })
-                  (λ ne. record {
-                    word = changed_else r.words.lane w 0 v ne ∙ (old.word ∙ ap lane_word (sym (changed_else (lane_of r.past) w None v ne)));
-                    holds = changed_else (held_of r.past) w (Some q) v ne ∙ (old.holds ∙ ap holding (sym (changed_else r.stances w (stance.Holds q) v ne)));
-                    owes = subst (OwesGone past' v) (sym (changed_else r.stances w (stance.Holds q) v ne)) (owes_stay r.past past' stays v (r.stances v) old.owes);
-                  });
-              each_record = λ m. at_changed (status r.past) q.mapping (held w q) m (Records r.words.recorded stances' r.plan.stage m)
-                  (λ e. subst (λ (st : Status). Records r.words.recorded r.stances r.plan.stage m st) (ap (status r.past) e ∙ is_in) (r.each_record m))
-                  (λ ne. other_stance r.words.recorded r.stances r.plan.stage w (stance.Holds q) m (status r.past m) (not_owed m) (λ o. o) (r.each_record m));
-              each_mark = r.each_mark;
-              each_seat = worker_steps r.past r.stances r.owner r.plan r.mover s.views r.each_seat past' stances' id w (hand stance.Rest taken) (hand (stance.Holds q) (taken ++ q ∷ [])) at
-                  (λ i. hand (sym (changed_here r.stances w (stance.Holds q) w refl) i) ((ap (λ (ps : List Place). ps ++ q ∷ []) (sym (taken_is openings s r id w stance.Rest taken at)) ∙ sym (changed_here (takes_of r.past) w (takes_of r.past w ++ q ∷ []) w refl)) i)) rest;
-              seated = worker_sits r.past r.stances r.owner r.plan r.mover s.views r.seated past' stances' id w (hand stance.Rest taken) (hand (stance.Holds q) (taken ++ q ∷ [])) at k.2
-                  (λ i. hand (sym (changed_here r.stances w (stance.Holds q) w refl) i) ((ap (λ (ps : List Place). ps ++ q ∷ []) (sym (taken_is openings s r id w stance.Rest taken at)) ∙ sym (changed_here (takes_of r.past) w (takes_of r.past w ++ q ∷ []) w refl)) i)) rest;
-              dealt = same_dealt openings s r past' stances' w k.0 k.1 rest;
-              planned = record {
-                made = r.planned.made;
-                wide = r.planned.wide;
-                newest = r.planned.newest;
-                stage = stage_stays r.words.recorded r.words.recorded r.past past' (length openings) stays (λ m b. b) (λ m. refl) (λ m b. refl) r.plan.stage r.planned.stage;
-              };
-            },
-            refl,
-          ),
+          worker_writes openings s r id w stance.Rest taken at (Lane w) 0 (stance.Holds q) (taken ++ q ∷ []) past' (lane_few openings s r id w stance.Rest taken at)
+              (record { stays = stays; opened = refl; refreshes = refl; newest = λ v. refl; below = λ m b. b; lines = λ m. refl }) (may, r.lawful)
+              (changed_here (takes_of r.past) w (takes_of r.past w ++ q ∷ []) w refl ∙ ap (λ (ps : List Place). ps ++ q ∷ []) (taken_is openings s r id w stance.Rest taken at))
+              (λ v ne. changed_else (takes_of r.past) w (takes_of r.past w ++ q ∷ []) v ne)
+              (λ v. let old = r.each_lane v in either_way v w
+              (λ e. record {
+                word = changed_here r.words.lane w 0 v e ∙ ap lane_word (sym (changed_here (lane_of r.past) w None v e));
+                holds = changed_here (held_of r.past) w (Some q) v e ∙ ap holding (sym (changed_here r.stances w (stance.Holds q) v e));
+                owes = subst (OwesGone past' v) (sym (changed_here r.stances w (stance.Holds q) v e)) tt;
+              })
+              (λ ne. record {
+                word = changed_else r.words.lane w 0 v ne ∙ (old.word ∙ ap lane_word (sym (changed_else (lane_of r.past) w None v ne)));
+                holds = changed_else (held_of r.past) w (Some q) v ne ∙ (old.holds ∙ ap holding (sym (changed_else r.stances w (stance.Holds q) v ne)));
+                owes = subst (OwesGone past' v) (sym (changed_else r.stances w (stance.Holds q) v ne)) (owes_stay r.past past' stays v (r.stances v) old.owes);
+              }))
+              (λ m. at_changed (status r.past) q.mapping (held w q) m (Records r.words.recorded (changed r.stances w (stance.Holds q)) r.plan.stage m)
+              (λ e. subst (λ (st : Status). Records r.words.recorded r.stances r.plan.stage m st) (ap (status r.past) e ∙ is_in) (r.each_record m))
+              (λ ne. other_stance r.words.recorded r.stances r.plan.stage w (stance.Holds q) m (status r.past m) (not_owed m) (λ o. o) (r.each_record m)))
+              (λ m b. refl)
+              (λ m. refl),
         )
 
 -- ---- put
@@ -172,7 +197,6 @@ module _ (w : ℕ) (p : Place) (some_place : packed p ≢ 0) where
 
 pub put_law : PutLaw
 put_law openings s r id w p taken at =
-    let k = mine openings s r id w (stance.Holds p) taken at in
     let snd = sound openings s r in
     let may : MayPut r.past w p = (snd.lane w).holds p (held_is openings s r id w (stance.Holds p) taken at) in
     let was = at_status snd p.mapping (held w p) may in
@@ -184,54 +208,31 @@ put_law openings s r id w p taken at =
     let o = lane_of r.past w in
     let places : (q : Place) → o ≡ Some q → packed q ≢ 0 = λ q e. packed_some q (at_status snd q.mapping (in_lane w q) ((snd.lane w).inside q e).0).0.place.place in
     let past' : List Event = put w p ∷ r.past in
-    let stances' : ℕ → Stance = changed r.stances w d in
     let stays : GoneStays r.past past' = gone_stays (put w p) r.past r.lawful may in
-    let rest : (v : ℕ) → v ≢ w → (stances' v ≡ r.stances v) × (takes_of past' v ≡ takes_of r.past v) = λ v ne. (changed_else r.stances w d v ne, refl) in
     let stance_was = stance_is openings s r id w (stance.Holds p) taken at in
     let not_owed : (m : ℕ) → IsOwed (r.stances w) m → ⊥ = λ m. subst (λ (y : Stance). IsOwed y m → ⊥) (sym stance_was) (λ h. h) in
-    let here : (m : ℕ) → m ≡ p.mapping → (lane : Option Place) → lane ≡ o → Records r.words.recorded stances' r.plan.stage m (cond (is_some lane) (gone w p) (in_lane w p)) = λ m e. put_record openings s r w p m (subst (λ (st : Status). Records r.words.recorded r.stances r.plan.stage m st) (ap (status r.past) e ∙ may) (r.each_record m)) e may some_place found word places in (
+    let here : (m : ℕ) → m ≡ p.mapping → (lane : Option Place) → lane ≡ o → Records r.words.recorded (changed r.stances w d) r.plan.stage m (cond (is_some lane) (gone w p) (in_lane w p)) = λ m e. put_record openings s r w p m (subst (λ (st : Status). Records r.words.recorded r.stances r.plan.stage m st) (ap (status r.past) e ∙ may) (r.each_record m)) e may some_place found word places in (
       may,
-      (
-        record {
-          words = wrote r.words (Lane w) x;
-          past = past';
-          stances = stances';
-          owner = r.owner;
-          plan = r.plan;
-          mover = r.mover;
-          few = r.few;
-          reads = writes s.words r.words (Lane w) x (lane_few openings s r id w (stance.Holds p) taken at) r.reads;
-          lawful = (may, r.lawful);
-          opened = r.opened;
-          each_lane = λ v. let old = r.each_lane v in either_way v w
-              (λ e. record {
-                word = changed_here r.words.lane w x v e ∙ (word_is w p some_place o found places word ∙ ap lane_word (sym (changed_here (lane_of r.past) w (Some (unwrap_or o p)) v e)));
-                holds = changed_here (held_of r.past) w None v e ∙ (after_none w p some_place (λ y. None ≡ holding y) refl refl found ∙ ap holding (sym (changed_here r.stances w d v e)));
-                owes = subst (OwesGone past' v) (sym (changed_here r.stances w d v e)) (owes_after openings s r w p may some_place found word places v e);
-              })
-              (λ ne. record {
-                word = changed_else r.words.lane w x v ne ∙ (old.word ∙ ap lane_word (sym (changed_else (lane_of r.past) w (Some (unwrap_or o p)) v ne)));
-                holds = changed_else (held_of r.past) w None v ne ∙ (old.holds ∙ ap holding (sym (changed_else r.stances w d v ne)));
-                owes = subst (OwesGone past' v) (sym (changed_else r.stances w d v ne)) (owes_stay r.past past' stays v (r.stances v) old.owes);
-              });
-          each_record = λ m. at_changed (status r.past) p.mapping (cond (is_some o) (gone w p) (in_lane w p)) m (Records r.words.recorded stances' r.plan.stage m)
-              (λ e. here m e o refl)
-              (λ ne. other_stance r.words.recorded r.stances r.plan.stage w d m (status r.past m) (not_owed m) (after_none w p some_place (λ y. IsOwed y m → ⊥) (λ h. h) (λ h. ne (sym h)) found) (r.each_record m));
-          each_mark = r.each_mark;
-          each_seat = worker_steps r.past r.stances r.owner r.plan r.mover s.views r.each_seat past' stances' id w (hand (stance.Holds p) taken) (hand d taken) at
-              (λ i. hand (sym (changed_here r.stances w d w refl) i) (sym (taken_is openings s r id w (stance.Holds p) taken at) i)) rest;
-          seated = worker_sits r.past r.stances r.owner r.plan r.mover s.views r.seated past' stances' id w (hand (stance.Holds p) taken) (hand d taken) at k.2
-              (λ i. hand (sym (changed_here r.stances w d w refl) i) (sym (taken_is openings s r id w (stance.Holds p) taken at) i)) rest;
-          dealt = same_dealt openings s r past' stances' w k.0 k.1 rest;
-          planned = record {
-            made = r.planned.made;
-            wide = r.planned.wide;
-            newest = r.planned.newest;
-            stage = stage_stays r.words.recorded r.words.recorded r.past past' (length openings) stays (λ m b. b) (λ m. refl) (λ m b. refl) r.plan.stage r.planned.stage;
-          };
-        },
-        refl,
-      ),
+      worker_writes openings s r id w (stance.Holds p) taken at (Lane w) x d taken past' (lane_few openings s r id w (stance.Holds p) taken at)
+          (record { stays = stays; opened = refl; refreshes = refl; newest = λ v. refl; below = λ m b. b; lines = λ m. refl }) (may, r.lawful)
+          (taken_is openings s r id w (stance.Holds p) taken at)
+          (λ v ne. refl)
+          (λ v. let old = r.each_lane v in either_way v w
+          (λ e. record {
+            word = changed_here r.words.lane w x v e ∙ (word_is w p some_place o found places word ∙ ap lane_word (sym (changed_here (lane_of r.past) w (Some (unwrap_or o p)) v e)));
+            holds = changed_here (held_of r.past) w None v e ∙ (after_none w p some_place (λ y. None ≡ holding y) refl refl found ∙ ap holding (sym (changed_here r.stances w d v e)));
+            owes = subst (OwesGone past' v) (sym (changed_here r.stances w d v e)) (owes_after openings s r w p may some_place found word places v e);
+          })
+          (λ ne. record {
+            word = changed_else r.words.lane w x v ne ∙ (old.word ∙ ap lane_word (sym (changed_else (lane_of r.past) w (Some (unwrap_or o p)) v ne)));
+            holds = changed_else (held_of r.past) w None v ne ∙ (old.holds ∙ ap holding (sym (changed_else r.stances w d v ne)));
+            owes = subst (OwesGone past' v) (sym (changed_else r.stances w d v ne)) (owes_stay r.past past' stays v (r.stances v) old.owes);
+          }))
+          (λ m. at_changed (status r.past) p.mapping (cond (is_some o) (gone w p) (in_lane w p)) m (Records r.words.recorded (changed r.stances w d) r.plan.stage m)
+          (λ e. here m e o refl)
+          (λ ne. other_stance r.words.recorded r.stances r.plan.stage w d m (status r.past m) (not_owed m) (after_none w p some_place (λ y. IsOwed y m → ⊥) (λ h. h) (λ h. ne (sym h)) found) (r.each_record m)))
+          (λ m b. refl)
+          (λ m. refl),
     )
   where
     -- where a stack is In the lane, the status is Gone and the worker owes it
@@ -261,7 +262,6 @@ record_is openings s r m few = r.reads.1 (Record m) few
 
 pub gone_law : GoneLaw
 gone_law openings s r id w p taken at =
-    let k = mine openings s r id w (stance.Owes p) taken at in
     let stance_was = stance_is openings s r id w (stance.Owes p) taken at in
     let went : status r.past p.mapping ≡ gone w p = subst (OwesGone r.past w) stance_was (r.each_lane w).owes in
     let was = at_status (sound openings s r) p.mapping (gone w p) went in
@@ -274,55 +274,32 @@ gone_law openings s r id w p taken at =
     let once : x ≡ record_word p w 1 = ap counted (record_is openings s r m few ∙ c.owed (inl owed)) ∙ counted_once p w was.0.place (lane_few openings s r id w (stance.Owes p) taken at) in
     let recorded' : ℕ → ℕ = changed r.words.recorded m x in
     let stances' : ℕ → Stance = changed r.stances w stance.Rest in
-    let rest : (v : ℕ) → v ≢ w → (stances' v ≡ r.stances v) × (takes_of r.past v ≡ takes_of r.past v) = λ v ne. (changed_else r.stances w stance.Rest v ne, refl) in
     let here : Counts (recorded' m) p w (IsOwed (stances' w) m) (IsMoverOwed r.plan.stage m) = record {
       one = λ a b. subst (λ (y : Stance). IsOwed y m) (changed_here r.stances w stance.Rest w refl) a;
       owed = λ o. ⊎_elim (λ a. absurd (subst (λ (y : Stance). IsOwed y m) (changed_here r.stances w stance.Rest w refl) a)) (λ b. absurd (c.one owed b)) o;
       counted = λ _ _. changed_here r.words.recorded m x m refl ∙ once;
-    } in (
-      record {
-        words = wrote r.words (Record m) x;
-        past = r.past;
-        stances = stances';
-        owner = r.owner;
-        plan = r.plan;
-        mover = r.mover;
-        few = r.few;
-        reads = writes s.words r.words (Record m) x few r.reads;
-        lawful = r.lawful;
-        opened = r.opened;
-        each_lane = λ v. let old = r.each_lane v in either_way v w
-            (λ e. record {
-              word = old.word;
-              holds = old.holds ∙ (ap holding (ap r.stances e ∙ stance_was) ∙ ap holding (sym (changed_here r.stances w stance.Rest v e)));
-              owes = subst (OwesGone r.past v) (sym (changed_here r.stances w stance.Rest v e)) tt;
-            })
-            (λ ne. record {
-              word = old.word;
-              holds = old.holds ∙ ap holding (sym (changed_else r.stances w stance.Rest v ne));
-              owes = subst (OwesGone r.past v) (sym (changed_else r.stances w stance.Rest v ne)) old.owes;
-            });
-        each_record = λ n. either_way n m
-            (λ e. subst (λ (j : ℕ). Records recorded' stances' r.plan.stage j (status r.past j)) (sym e) (subst (Records recorded' stances' r.plan.stage m) (sym went) here))
-            (λ ne. other_record r.words.recorded recorded' stances' r.plan.stage n (status r.past n) (changed_else r.words.recorded m x n ne)
-            (other_stance r.words.recorded r.stances r.plan.stage w stance.Rest n (status r.past n) (λ o. ne (sym (subst (λ (y : Stance). IsOwed y n) stance_was o))) (λ o. o) (r.each_record n)));
-        each_mark = r.each_mark;
-        each_seat = worker_steps r.past r.stances r.owner r.plan r.mover s.views r.each_seat r.past stances' id w (hand (stance.Owes p) taken) (hand stance.Rest taken) at
-            (λ i. hand (sym (changed_here r.stances w stance.Rest w refl) i) (sym (taken_is openings s r id w (stance.Owes p) taken at) i)) rest;
-        seated = worker_sits r.past r.stances r.owner r.plan r.mover s.views r.seated r.past stances' id w (hand (stance.Owes p) taken) (hand stance.Rest taken) at k.2
-            (λ i. hand (sym (changed_here r.stances w stance.Rest w refl) i) (sym (taken_is openings s r id w (stance.Owes p) taken at) i)) rest;
-        dealt = same_dealt openings s r r.past stances' w k.0 k.1 rest;
-        planned = record {
-          made = r.planned.made;
-          wide = r.planned.wide;
-          newest = r.planned.newest;
-          stage = stage_stays r.words.recorded recorded' r.past r.past (length openings) (λ n v q h. h) (λ n b. b) (λ n. refl)
-              (λ n b. changed_else r.words.recorded m x n (λ e. let f : unmade ≡ gone w p = sym (below_unmade r.past n r.lawful b) ∙ (ap (status r.past) e ∙ went) in absurd (let g : ⊥ = cc in g)))
-              r.plan.stage r.planned.stage;
-        };
-      },
-      refl,
-    )
+    } in
+    worker_writes openings s r id w (stance.Owes p) taken at (Record m) x stance.Rest taken r.past few
+    (record { stays = λ n v q h. h; opened = refl; refreshes = refl; newest = λ v. refl; below = λ n b. b; lines = λ n. refl }) r.lawful
+    (taken_is openings s r id w (stance.Owes p) taken at)
+    (λ v ne. refl)
+    (λ v. let old = r.each_lane v in either_way v w
+    (λ e. record {
+      word = old.word;
+      holds = old.holds ∙ (ap holding (ap r.stances e ∙ stance_was) ∙ ap holding (sym (changed_here r.stances w stance.Rest v e)));
+      owes = subst (OwesGone r.past v) (sym (changed_here r.stances w stance.Rest v e)) tt;
+    })
+    (λ ne. record {
+      word = old.word;
+      holds = old.holds ∙ ap holding (sym (changed_else r.stances w stance.Rest v ne));
+      owes = subst (OwesGone r.past v) (sym (changed_else r.stances w stance.Rest v ne)) old.owes;
+    }))
+    (λ n. either_way n m
+    (λ e. subst (λ (j : ℕ). Records recorded' stances' r.plan.stage j (status r.past j)) (sym e) (subst (Records recorded' stances' r.plan.stage m) (sym went) here))
+    (λ ne. other_record r.words.recorded recorded' stances' r.plan.stage n (status r.past n) (changed_else r.words.recorded m x n ne)
+    (other_stance r.words.recorded r.stances r.plan.stage w stance.Rest n (status r.past n) (λ o. ne (sym (subst (λ (y : Stance). IsOwed y n) stance_was o))) (λ o. o) (r.each_record n))))
+    (λ n b. changed_else r.words.recorded m x n (λ e. let f : unmade ≡ gone w p = sym (below_unmade r.past n r.lawful b) ∙ (ap (status r.past) e ∙ went) in absurd (let g : ⊥ = cc in g)))
+    (λ n. refl)
 
 -- ---- what the mover's seat knows
 pub record MoverKnows (openings : List Place) (s : St) (r : Kept openings s) (id : ℕ) (q : Plan) : Type 0 where
@@ -347,6 +324,68 @@ stage_dealt openings s r past' q q' h dealt back same = record {
   back = λ v l. let u = h.back v (subst (λ (hs : List Hand). v < length hs) back l) in (u.0, ap (λ (hs : List Hand). get_elem? hs v) back ∙ (u.1 ∙ (λ i. some (hand stance.Rest (sym (same v) i)))));
 }
 
+-- a step of the mover: it writes to the word of a name, and its plan becomes this
+mover_writes : (openings : List Place) (s : St) (r : Kept openings s) (id : ℕ) (q : Plan) → get_elem? s.views id ≡ some (Mover q) → (name : Name) (x : ℕ) → IsName name → (q' : Plan) → q'.dealt ≡ q.dealt → q'.back ≡ q.back
+    → (past' : List Event) → AreLawful past' → openings_of past' ≡ openings_of r.past → ((v : ℕ) → takes_of past' v ≡ takes_of r.past v)
+    → ((v : ℕ) → LaneStands (wrote r.words name x).lane past' v (r.stances v))
+    → ((m : ℕ) → Records (wrote r.words name x).recorded r.stances q'.stage m (status past' m))
+    → ((m : ℕ) → (IsUnmarked q'.stage m → ⊥) → (wrote r.words name x).mark m ≡ line_of past' m)
+    → PlanStands (wrote r.words name x).recorded past' (length openings) q'
+    → (r' : Kept openings (stepped s (index name) x id [] (Mover q') keeps)) × (r'.past ≡ past')
+mover_writes openings s r id q at name x named q' dealt back past' lawful opened takes lanes records marks planned =
+    let k = mover_knows openings s r id q at in (
+      record {
+        words = wrote r.words name x;
+        past = past';
+        stances = r.stances;
+        owner = r.owner;
+        plan = q';
+        mover = r.mover;
+        few = r.few;
+        reads = writes s.words r.words name x named r.reads;
+        lawful = lawful;
+        opened = opened ∙ r.opened;
+        each_lane = lanes;
+        each_record = records;
+        each_mark = marks;
+        each_seat = mover_steps r.past r.stances r.owner q r.mover s.views k.each_seat past' q' id k.mover dealt back takes;
+        seated = mover_sits r.past r.stances r.owner q r.mover s.views k.seated past' q' id k.mover dealt back takes;
+        dealt = stage_dealt openings s r past' q q' k.dealt dealt back takes;
+        planned = planned;
+      },
+      refl,
+    )
+
+-- a seat is split off the mover's or joined to it: only the seats change, and what the mover knows of them
+mover_seats : (openings : List Place) (s : St) (r : Kept openings s) (id : ℕ) (q : Plan) → get_elem? s.views id ≡ some (Mover q) → (owner' : ℕ → ℕ) (dealt : ℕ) (back : List Hand) (views : List Doing)
+    → ((j : ℕ) (view : Doing) → get_elem? views j ≡ some view → Knows r.past r.stances owner' (record q { dealt = dealt; back = back }) r.mover j view)
+    → Seated r.past r.stances owner' (record q { dealt = dealt; back = back }) r.mover views
+    → Dealt r.past r.stances (length openings) (record q { dealt = dealt; back = back })
+    → Stays openings s r (record { words = s.words; homes = s.homes; views = views })
+mover_seats openings s r id q at owner' dealt back views know seated are_dealt =
+    let k = mover_knows openings s r id q at in (
+      record {
+        words = r.words;
+        past = r.past;
+        stances = r.stances;
+        owner = owner';
+        plan = record q { dealt = dealt; back = back };
+        mover = r.mover;
+        few = r.few;
+        reads = r.reads;
+        lawful = r.lawful;
+        opened = r.opened;
+        each_lane = r.each_lane;
+        each_record = k.each_record;
+        each_mark = k.each_mark;
+        each_seat = know;
+        seated = seated;
+        dealt = are_dealt;
+        planned = record { made = k.planned.made; wide = k.planned.wide; newest = k.planned.newest; stage = k.planned.stage };
+      },
+      refl,
+    )
+
 -- ---- the mover's unmap step
 pub mover_gone_law : MoverGoneLaw
 mover_gone_law openings s r id q p at stage_is =
@@ -369,31 +408,14 @@ mover_gone_law openings s r id q p at stage_is =
       one = λ a b. b;
       owed = λ o. ⊎_elim (λ a. absurd (c.one a owed)) (λ b. absurd b) o;
       counted = λ _ _. changed_here r.words.recorded m x m refl ∙ once;
-    } in (
-      record {
-        words = wrote r.words (Record m) x;
-        past = r.past;
-        stances = r.stances;
-        owner = r.owner;
-        plan = q';
-        mover = r.mover;
-        few = r.few;
-        reads = writes s.words r.words (Record m) x few r.reads;
-        lawful = r.lawful;
-        opened = r.opened;
-        each_lane = r.each_lane;
-        each_record = λ n. either_way n m
-            (λ e. subst (λ (j : ℕ). Records recorded' r.stances stage.Idle j (status r.past j)) (sym e) (subst (Records recorded' r.stances stage.Idle m) (sym went) here))
-            (λ ne. other_record r.words.recorded recorded' r.stances stage.Idle n (status r.past n) (changed_else r.words.recorded m x n ne)
-            (other_stage r.words.recorded r.stances q.stage stage.Idle n (status r.past n) (λ o. ne (sym (subst (λ (y : Stage). IsMoverOwed y n) stage_is o))) (λ o. o) (λ o. subst (λ (y : Stage). IsRecorded y n) stage_is o) (k.each_record n)));
-        each_mark = λ n _. k.each_mark n (λ u. subst (λ (y : Stage). IsUnmarked y n) stage_is u);
-        each_seat = mover_steps r.past r.stances r.owner q r.mover s.views k.each_seat r.past q' id k.mover refl refl (λ v. refl);
-        seated = mover_sits r.past r.stances r.owner q r.mover s.views k.seated r.past q' id k.mover refl refl (λ v. refl);
-        dealt = stage_dealt openings s r r.past q q' k.dealt refl refl (λ v. refl);
-        planned = record { made = k.planned.made; wide = k.planned.wide; newest = k.planned.newest; stage = tt };
-      },
-      refl,
-    )
+    } in
+    mover_writes openings s r id q at (Record m) x few q' refl refl r.past r.lawful refl (λ v. refl) r.each_lane
+    (λ n. either_way n m
+    (λ e. subst (λ (j : ℕ). Records recorded' r.stances stage.Idle j (status r.past j)) (sym e) (subst (Records recorded' r.stances stage.Idle m) (sym went) here))
+    (λ ne. other_record r.words.recorded recorded' r.stances stage.Idle n (status r.past n) (changed_else r.words.recorded m x n ne)
+    (other_stage r.words.recorded r.stances q.stage stage.Idle n (status r.past n) (λ o. ne (sym (subst (λ (y : Stage). IsMoverOwed y n) stage_is o))) (λ o. o) (λ o. subst (λ (y : Stage). IsRecorded y n) stage_is o) (k.each_record n))))
+    (λ n _. k.each_mark n (λ u. subst (λ (y : Stage). IsUnmarked y n) stage_is u))
+    (record { made = k.planned.made; wide = k.planned.wide; newest = k.planned.newest; stage = tt })
 
 -- ---- record
 pub record_law : RecordLaw
@@ -405,36 +427,18 @@ record_law openings s r id q g at stage_is may =
     let fresh = below_unmade r.past m r.lawful above in
     let x = record_word g.place g.lane 0 in
     let recorded' : ℕ → ℕ = changed r.words.recorded m x in
-    let q' : Plan = record q { stage = stage.Recorded g } in (
-      record {
-        words = wrote r.words (Record m) x;
-        past = r.past;
-        stances = r.stances;
-        owner = r.owner;
-        plan = q';
-        mover = r.mover;
-        few = r.few;
-        reads = writes s.words r.words (Record m) x few r.reads;
-        lawful = r.lawful;
-        opened = r.opened;
-        each_lane = r.each_lane;
-        each_record = λ n. either_way n m
-            (λ e. subst (Records recorded' r.stances (stage.Recorded g) n) (sym (ap (status r.past) e ∙ fresh)) (λ free. absurd (free (sym e))))
-            (λ ne. other_record r.words.recorded recorded' r.stances (stage.Recorded g) n (status r.past n) (changed_else r.words.recorded m x n ne)
-            (other_stage r.words.recorded r.stances q.stage (stage.Recorded g) n (status r.past n) (λ o. subst (λ (y : Stage). IsMoverOwed y n) stage_is o) (λ o. o) (λ o. subst (λ (y : Stage). IsRecorded y n) stage_is o) (k.each_record n)));
-        each_mark = λ n _. k.each_mark n (λ u. subst (λ (y : Stage). IsUnmarked y n) stage_is u);
-        each_seat = mover_steps r.past r.stances r.owner q r.mover s.views k.each_seat r.past q' id k.mover refl refl (λ v. refl);
-        seated = mover_sits r.past r.stances r.owner q r.mover s.views k.seated r.past q' id k.mover refl refl (λ v. refl);
-        dealt = stage_dealt openings s r r.past q q' k.dealt refl refl (λ v. refl);
-        planned = record {
-          made = k.planned.made;
-          wide = k.planned.wide;
-          newest = k.planned.newest;
-          stage = record { place = may.place; lane = let a = may.lane in let b = k.planned.wide in omega arith; from_line = may.from_line; above = above; word = changed_here r.words.recorded m x m refl };
-        };
-      },
-      refl,
-    )
+    mover_writes openings s r id q at (Record m) x few (record q { stage = stage.Recorded g }) refl refl r.past r.lawful refl (λ v. refl) r.each_lane
+    (λ n. either_way n m
+    (λ e. subst (Records recorded' r.stances (stage.Recorded g) n) (sym (ap (status r.past) e ∙ fresh)) (λ free. absurd (free (sym e))))
+    (λ ne. other_record r.words.recorded recorded' r.stances (stage.Recorded g) n (status r.past n) (changed_else r.words.recorded m x n ne)
+    (other_stage r.words.recorded r.stances q.stage (stage.Recorded g) n (status r.past n) (λ o. subst (λ (y : Stage). IsMoverOwed y n) stage_is o) (λ o. o) (λ o. subst (λ (y : Stage). IsRecorded y n) stage_is o) (k.each_record n))))
+    (λ n _. k.each_mark n (λ u. subst (λ (y : Stage). IsUnmarked y n) stage_is u))
+    (record {
+      made = k.planned.made;
+      wide = k.planned.wide;
+      newest = k.planned.newest;
+      stage = record { place = may.place; lane = let a = may.lane in let b = k.planned.wide in omega arith; from_line = may.from_line; above = above; word = changed_here r.words.recorded m x m refl };
+    })
   where
     above_all : (openings : List Place) (s : St) (r : Kept openings s) (q : Plan) (g : Given) → q.made ≡ refreshes_of r.past → IsAbove openings q.made g.place.mapping → AreBelow r.past g.place.mapping
     above_all openings s r q g made h = are_below r.past g.place.mapping (subst (λ (ps : List Place). IsAbove ps (refreshes_of r.past) g.place.mapping) (sym r.opened) (subst (λ (gs : List Given). IsAbove openings gs g.place.mapping) made h))
@@ -494,33 +498,19 @@ refresh_law openings s r id q g at stage_is =
         let last : get_or q.newest w 0 ≡ newest r.past w = k.planned.newest w ready.lane in
         let q' : Plan = replacing q found (stage.Recorded g) in (
           may,
-          (
-            record {
-              words = wrote r.words (Lane w) (packed p);
-              past = past';
-              stances = r.stances;
-              owner = r.owner;
-              plan = q';
-              mover = r.mover;
-              few = r.few;
-              reads = writes s.words r.words (Lane w) (packed p) few r.reads;
-              lawful = (may, r.lawful);
-              opened = r.opened;
-              each_lane = λ v. let old = r.each_lane v in record {
+          mover_writes openings s r id q at (Lane w) (packed p) few q' refl refl past' (may, r.lawful) refl (λ v. refl)
+              (λ v. let old = r.each_lane v in record {
                 word = either_way v w
                     (λ e. changed_here r.words.lane w (packed p) v e ∙ ap lane_word (sym (changed_here (lane_of r.past) w (Some p) v e)))
                     (λ ne. changed_else r.words.lane w (packed p) v ne ∙ (old.word ∙ ap lane_word (sym (changed_else (lane_of r.past) w (Some p) v ne))));
                 holds = old.holds;
                 owes = owes_stay r.past past' stays v (r.stances v) old.owes;
-              };
-              each_record = λ m. at_changed (λ n. replaced w (status r.past n)) p.mapping (in_lane w p) m (Records r.words.recorded r.stances q'.stage m)
-                  (λ e. ap r.words.recorded e ∙ ready.word)
-                  (λ ne. refresh_record openings s r g may m (get_or q.newest w 0) line (lane_place found) old_is ne (status r.past m) refl (subst (λ (y : Stage). Records r.words.recorded r.stances y m (status r.past m)) stage_is (k.each_record m)));
-              each_mark = λ m free. k.each_mark m (λ u. subst (λ (y : Stage). IsUnmarked y m) stage_is u) ∙ sym (changed_else (line_of r.past) (newest r.past w) line m (λ e. free (last ∙ sym e)));
-              each_seat = mover_steps r.past r.stances r.owner q r.mover s.views k.each_seat past' q' id k.mover refl refl (λ v. refl);
-              seated = mover_sits r.past r.stances r.owner q r.mover s.views k.seated past' q' id k.mover refl refl (λ v. refl);
-              dealt = stage_dealt openings s r past' q q' k.dealt refl refl (λ v. refl);
-              planned = record {
+              })
+              (λ m. at_changed (λ n. replaced w (status r.past n)) p.mapping (in_lane w p) m (Records r.words.recorded r.stances q'.stage m)
+              (λ e. ap r.words.recorded e ∙ ready.word)
+              (λ ne. refresh_record openings s r g may m (get_or q.newest w 0) line (lane_place found) old_is ne (status r.past m) refl (subst (λ (y : Stage). Records r.words.recorded r.stances y m (status r.past m)) stage_is (k.each_record m))))
+              (λ m free. k.each_mark m (λ u. subst (λ (y : Stage). IsUnmarked y m) stage_is u) ∙ sym (changed_else (line_of r.past) (newest r.past w) line m (λ e. free (last ∙ sym e))))
+              (record {
                 made = ap (λ (gs : List Given). gs ++ g ∷ []) k.planned.made;
                 wide = length-set q.newest w p.mapping ∙ k.planned.wide;
                 newest = λ v l. either_way v w
@@ -531,10 +521,7 @@ refresh_law openings s r id q g at stage_is =
                   number = let a = newest_below r.past p.mapping w ready.above ready.place.place.mapping_from in let b = number_fits p ready.place in omega arith;
                   went = subst (IsGone past') (sym old_is) (went_out openings s r g may snd o refl);
                 };
-              };
-            },
-            refl,
-          ),
+              }),
         )
 
 -- ---- mark
@@ -561,30 +548,12 @@ mark_law openings s r id q m line old at stage_is =
     mark_with openings s r id q m line old at stage_is =
         let k = mover_knows openings s r id q at in
         let is = subst (StageStands r.words.recorded r.past (length openings)) stage_is k.planned.stage in
-        let q' : Plan = record q { stage = owing old } in (
-          record {
-            words = wrote r.words (Mark m) line;
-            past = r.past;
-            stances = r.stances;
-            owner = r.owner;
-            plan = q';
-            mover = r.mover;
-            few = r.few;
-            reads = writes s.words r.words (Mark m) line is.number r.reads;
-            lawful = r.lawful;
-            opened = r.opened;
-            each_lane = r.each_lane;
-            each_record = λ n. marked_record r.words.recorded r.stances m line old n (status r.past n) (subst (λ (y : Stage). Records r.words.recorded r.stances y n (status r.past n)) stage_is (k.each_record n));
-            each_mark = λ n free. either_way n m
-                (λ e. changed_here r.words.mark m line n e ∙ sym (ap (line_of r.past) e ∙ is.replaced))
-                (λ ne. changed_else r.words.mark m line n ne ∙ k.each_mark n (λ u. ne (sym (subst (λ (y : Stage). IsUnmarked y n) stage_is u))));
-            each_seat = mover_steps r.past r.stances r.owner q r.mover s.views k.each_seat r.past q' id k.mover refl refl (λ v. refl);
-            seated = mover_sits r.past r.stances r.owner q r.mover s.views k.seated r.past q' id k.mover refl refl (λ v. refl);
-            dealt = stage_dealt openings s r r.past q q' k.dealt refl refl (λ v. refl);
-            planned = record { made = k.planned.made; wide = k.planned.wide; newest = k.planned.newest; stage = owing_stands r.words.recorded r.past (length openings) old is.went };
-          },
-          refl,
-        )
+        mover_writes openings s r id q at (Mark m) line is.number (record q { stage = owing old }) refl refl r.past r.lawful refl (λ v. refl) r.each_lane
+        (λ n. marked_record r.words.recorded r.stances m line old n (status r.past n) (subst (λ (y : Stage). Records r.words.recorded r.stances y n (status r.past n)) stage_is (k.each_record n)))
+        (λ n free. either_way n m
+        (λ e. changed_here r.words.mark m line n e ∙ sym (ap (line_of r.past) e ∙ is.replaced))
+        (λ ne. changed_else r.words.mark m line n ne ∙ k.each_mark n (λ u. ne (sym (subst (λ (y : Stage). IsUnmarked y n) stage_is u)))))
+        (record { made = k.planned.made; wide = k.planned.wide; newest = k.planned.newest; stage = owing_stands r.words.recorded r.past (length openings) old is.went })
 
 -- ---- split and join
 pub split_law : SplitLaw
@@ -594,30 +563,13 @@ split_law openings s r id q at inside none =
     let q' : Plan = dealing q in
     let n = length (set s.views id (Mover q')) in
     let owner' : ℕ → ℕ = changed r.owner w n in
-    let free = k.dealt.undealt w (omega arith) in (
-      record {
-        words = r.words;
-        past = r.past;
-        stances = r.stances;
-        owner = owner';
-        plan = q';
-        mover = r.mover;
-        few = r.few;
-        reads = r.reads;
-        lawful = r.lawful;
-        opened = r.opened;
-        each_lane = r.each_lane;
-        each_record = k.each_record;
-        each_mark = k.each_mark;
-        each_seat = mover_splits r.past r.stances r.owner q r.mover s.views k.each_seat owner' q' id w (hand stance.Rest []) k.mover refl refl refl (let l = ap length none in omega arith)
-            (λ v l. changed_else r.owner w n v (λ e. omega arith)) (changed_here r.owner w n w refl) (λ i. hand (sym free.0 i) (sym free.1 i));
-        seated = split_sits r.past r.stances r.owner q r.mover s.views k.seated owner' q' id w (hand stance.Rest []) k.mover refl refl refl
-            (λ v l. changed_else r.owner w n v (λ e. omega arith)) (changed_here r.owner w n w refl) (λ i. hand (sym free.0 i) (sym free.1 i));
-        dealt = record { few = omega arith; undealt = λ v l. k.dealt.undealt v (omega arith); back = k.dealt.back };
-        planned = record { made = k.planned.made; wide = k.planned.wide; newest = k.planned.newest; stage = k.planned.stage };
-      },
-      refl,
-    )
+    let free = k.dealt.undealt w (omega arith) in
+    mover_seats openings s r id q at owner' (w + 1) q.back (set s.views id (Mover q') ++ Worker w (hand stance.Rest []) ∷ [])
+    (mover_splits r.past r.stances r.owner q r.mover s.views k.each_seat owner' q' id w (hand stance.Rest []) k.mover refl refl refl (let l = ap length none in omega arith)
+    (λ v l. changed_else r.owner w n v (λ e. omega arith)) (changed_here r.owner w n w refl) (λ i. hand (sym free.0 i) (sym free.1 i)))
+    (split_sits r.past r.stances r.owner q r.mover s.views k.seated owner' q' id w (hand stance.Rest []) k.mover refl refl refl
+    (λ v l. changed_else r.owner w n v (λ e. omega arith)) (changed_here r.owner w n w refl) (λ i. hand (sym free.0 i) (sym free.1 i)))
+    (record { few = omega arith; undealt = λ v l. k.dealt.undealt v (omega arith); back = k.dealt.back })
 
 pub join_law : JoinLaw
 join_law openings s r id q other w taken at apart there next =
@@ -627,34 +579,17 @@ join_law openings s r id q other w taken at apart there next =
     let rest : r.stances w ≡ stance.Rest = ap (λ (x : Hand). x.stance) (sym theirs.3) in
     let takes : takes_of r.past w ≡ taken = ap (λ (x : Hand). x.taken) (sym theirs.3) in
     let q' : Plan = gathering q h in
-    let n = length-append q.back (h ∷ []) in (
-      record {
-        words = r.words;
-        past = r.past;
-        stances = r.stances;
-        owner = r.owner;
-        plan = q';
-        mover = r.mover;
-        few = r.few;
-        reads = r.reads;
-        lawful = r.lawful;
-        opened = r.opened;
-        each_lane = r.each_lane;
-        each_record = k.each_record;
-        each_mark = k.each_mark;
-        each_seat = mover_joins r.past r.stances r.owner q r.mover s.views k.each_seat q' id other w h k.mover there next refl (omega arith);
-        seated = join_sits r.past r.stances r.owner q r.mover s.views k.seated q' id other w h k.mover apart there next refl (omega arith);
-        dealt = record {
-          few = k.dealt.few;
-          undealt = k.dealt.undealt;
-          back = λ v l. either_way v (length q.back)
-              (λ e. (ap r.stances (e ∙ sym next) ∙ rest, ap (λ (j : ℕ). get_elem? (q.back ++ h ∷ []) j) e ∙ (at_last q.back h (length q.back) refl ∙ ap (λ (ps : List Place). some (hand stance.Rest ps)) (sym takes ∙ ap (takes_of r.past) (next ∙ sym e)))))
-              (λ ne. let u = k.dealt.back v (omega arith) in (u.0, at_longer q.back (h ∷ []) v (hand stance.Rest (takes_of r.past v)) u.1));
-        };
-        planned = record { made = k.planned.made; wide = k.planned.wide; newest = k.planned.newest; stage = k.planned.stage };
-      },
-      refl,
-    )
+    let n = length-append q.back (h ∷ []) in
+    mover_seats openings s r id q at r.owner q.dealt (q.back ++ h ∷ []) (set (set s.views id (Mover q')) other Spent)
+    (mover_joins r.past r.stances r.owner q r.mover s.views k.each_seat q' id other w h k.mover there next refl (omega arith))
+    (join_sits r.past r.stances r.owner q r.mover s.views k.seated q' id other w h k.mover apart there next refl (omega arith))
+    (record {
+      few = k.dealt.few;
+      undealt = k.dealt.undealt;
+      back = λ v l. either_way v (length q.back)
+          (λ e. (ap r.stances (e ∙ sym next) ∙ rest, ap (λ (j : ℕ). get_elem? (q.back ++ h ∷ []) j) e ∙ (at_last q.back h (length q.back) refl ∙ ap (λ (ps : List Place). some (hand stance.Rest ps)) (sym takes ∙ ap (takes_of r.past) (next ∙ sym e)))))
+          (λ ne. let u = k.dealt.back v (omega arith) in (u.0, at_longer q.back (h ∷ []) v (hand stance.Rest (takes_of r.past v)) u.1));
+    })
 
 -- what a refresh's swap finds: nothing, or the word of a stack
 pub refresh_found : (openings : List Place) (s : St) (r : Kept openings s) (id : ℕ) (q : Plan) (g : Given) → get_elem? s.views id ≡ some (Mover q) → q.stage ≡ stage.Recorded g → get_or s.words g.lane 0 ≢ 0 → IsStackWord (get_or s.words g.lane 0)

@@ -12,7 +12,7 @@ use Rattle.ad_stacks.specs.declared.view.Stage.TheVariants as stage
 use Rattle.ad_stacks.specs.declared.view.Plan.{Plan}
 use Rattle.ad_stacks.specs.declared.view.Doing.{Doing}
 use Rattle.ad_stacks.specs.declared.view.Doing.TheVariants.{Spent, Worker, Mover}
-use Rattle.ad_stacks.specs.Account.{Event, took, put, refreshed, IsAbove, Lawful}
+use Rattle.ad_stacks.specs.History.{Event, took, put, refreshed, IsAbove, Lawful}
 use Rattle.ad_stacks.specs.Names.{Name, Lane, Record, Mark, index}
 use Rattle.ad_stacks.specs.Rule.{St, Kept}
 use Rattle.ad_stacks.specs.StackPlace.{place_at, record_word, IsStackPlace}

@@ -1,12 +1,13 @@
--- The rows of a closed table.
-use Rattle.std.specs.Prelude.{◌≡◌, ℕ, zero, suc, ◌+◌, ◌==◌, List, [], ◌∷◌, ◌++◌, length, filter, slice_get, IfSome, None, Any, All, if◌then◌else◌}
+-- The rows of a closed table: the ledger of its stacks.
+use Rattle.std.specs.Prelude.{◌≡◌, ℕ, zero, suc, ◌+◌, ◌==◌, List, [], ◌∷◌, ◌++◌, length, filter, map, slice_get, IfSome, None, Any, All}
 use Rattle.atomic_table.specs.Seated.{TableId}
 use Rattle.ad_base.specs.declared.ledger.Kind.TheVariants.{Stack}
 use Rattle.ad_base.specs.declared.ledger.Row.{Row}
 use Rattle.ad_base.specs.declared.place.Place.{Place}
+use Rattle.ad_base.specs.Ledger.{IsLedger, Mapping}
+use Rattle.ad_stacks.specs.declared.words.TheConstants.{NUMBERS}
 use Rattle.ad_stacks.specs.declared.view.Given.{Given}
-use Rattle.ad_stacks.specs.Account.{Event, AreLawful, held_of, openings_of, refreshes_of, takes_of}
-use Rattle.ad_stacks.specs.Names.{changed}
+use Rattle.ad_stacks.specs.History.{Event, AreLawful, held_of, openings_of, refreshes_of, takes_of}
 use Rattle.ad_stacks.specs.Seen.{SeatSeen}
 
 -- the stacks of the opening, as they were given to the lanes from w on, in line 0
@@ -18,24 +19,24 @@ given_from w (p ∷ ps) = record { lane = w; place = p; line = 0 } ∷ given_fro
 abbrev pub all_given : List Place → List Given → List Given
 all_given openings refreshes = given_from 0 openings ++ refreshes
 
--- the line in which each lane is given the first of these stacks, or 0 where it is given none
-abbrev pub next_lines : List Given → ℕ → ℕ
-next_lines [] w = 0
-next_lines (g ∷ later) w = changed (next_lines later) g.lane g.line w
+-- the mapping of a stack that a lane was given
+abbrev pub stack_mapping : Given → Mapping
+stack_mapping g = record { kind = Stack; who = g.lane; place = g.place; line = g.line }
 
--- the row of a stack that was replaced in this line, or never, which is 0: a replaced one was unmapped once
-abbrev pub row_of : Given → ℕ → Row
-row_of g line = record { mapping = g.place.mapping; kind = Stack; who = g.lane; place = g.place; line = line; unmaps = if line == 0 then 0 else 1 }
-
--- one row for each stack given, with the line in which its lane is given the next
-abbrev pub rows_given : List Given → List Row
-rows_given [] = []
-rows_given (g ∷ later) = row_of g (next_lines later g.lane) ∷ rows_given later
+-- the mappings of all stacks that the lanes were given, in order
+abbrev pub stack_mappings : List Place → List Given → List Mapping
+stack_mappings openings refreshes = map stack_mapping (all_given openings refreshes)
 
 -- these rows in order of number: of each number below n in turn, those that have it
 unfoldable pub by_number : List Row → ℕ → List Row
 by_number rows zero = []
 by_number rows (suc n) = by_number rows n ++ filter (λ (r : Row). r.mapping == n) rows
+
+-- the rows are the ledger of the stacks that the lanes were given, in order of number
+pub record AreRows (openings : List Place) (refreshes : List Given) (rows : List Row) : Type 0 where
+  pub listed : List Row
+  pub ledger : IsLedger (stack_mappings openings refreshes) listed
+  pub in_order : rows ≡ by_number listed NUMBERS
 
 -- all worker's seats of a table, in order of worker
 pub record AreAll (table : TableId) (lanes : ℕ) (seats : List SeatSeen) : Type 0 where

@@ -1,4 +1,4 @@
-pub mod Account
+pub mod History
 pub mod Laws
 pub mod Ledger
 pub mod Names

@@ -1,4 +1,4 @@
--- How the account is read off the words and the views, and what it promises.
+-- How the state that a history leaves is read off the words and the views, and what holds of it.
 use Rattle.std.specs.Prelude.{◌≡◌, ◌⊎◌, ℕ, ◌+◌, ◌^◌, ◌<◌, Bool, true, false, not, ◌&&◌, List, [], ◌∷◌, slice_index, Some, if◌then◌else◌}
 use mathlib.Core.Option.{some}
 use lib.ListN.{get_elem?}
@@ -10,7 +10,7 @@ use Rattle.ad_stacks.specs.declared.view.Stance.TheVariants as stance
 use Rattle.ad_stacks.specs.declared.view.Stage.TheVariants as stage
 use Rattle.ad_stacks.specs.declared.view.Doing.{Doing}
 use Rattle.ad_stacks.specs.declared.view.Doing.TheVariants.{Spent, Worker, Mover}
-use Rattle.ad_stacks.specs.Account.{Event, Status, unmade, in_lane, held, gone, status, lane_of, held_of, takes_of, refreshes_of, line_of, AreLawful, NeverFall}
+use Rattle.ad_stacks.specs.History.{Event, Status, unmade, in_lane, held, gone, status, lane_of, held_of, takes_of, refreshes_of, line_of, AreLawful, NeverFall}
 use Rattle.ad_stacks.specs.Names.{Lane, Record, Mark, index}
 use Rattle.ad_stacks.specs.Rule.{St, Kept, holding, IsOwed, IsMoverOwed}
 use Rattle.ad_stacks.specs.StackPlace.{lane_word, record_word}
@@ -72,7 +72,7 @@ abbrev pub QuietLaw : Type 0
 QuietLaw = (openings : List Place) (s : St) (r : Kept openings s) → IsQuiet s.views
     → ((m : ℕ) → 0 < line_of r.past m → IsGoneOnce s.words r.past m) × ((m w : ℕ) (p : Place) → line_of r.past m ≡ 0 → status r.past m ≡ gone w p → ⊥)
 
--- what the account says of the lanes and of the hands is what it says of the mappings
+-- what a history says of the lanes and of the hands is what it says of the mappings
 abbrev pub LanesLaw : Type 0
 LanesLaw = (past : List Event) (w : ℕ) (p : Place) → AreLawful past → (lane_of past w ≡ Some p → status past p.mapping ≡ in_lane w p) × (status past p.mapping ≡ in_lane w p → lane_of past w ≡ Some p)
 

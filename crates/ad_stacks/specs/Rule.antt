@@ -13,7 +13,7 @@ use Rattle.ad_stacks.specs.declared.view.Stage.TheVariants as stage
 use Rattle.ad_stacks.specs.declared.view.Plan.{Plan}
 use Rattle.ad_stacks.specs.declared.view.Doing.{Doing}
 use Rattle.ad_stacks.specs.declared.view.Doing.TheVariants.{Spent, Worker, Mover}
-use Rattle.ad_stacks.specs.Account.{Event, Status, unmade, in_lane, held, gone, status, lane_of, held_of, takes_of, openings_of, refreshes_of, newest, line_of, AreBelow, AreLawful}
+use Rattle.ad_stacks.specs.History.{Event, Status, unmade, in_lane, held, gone, status, lane_of, held_of, takes_of, openings_of, refreshes_of, newest, line_of, AreBelow, AreLawful}
 use Rattle.ad_stacks.specs.Names.{Words, AreWords}
 use Rattle.ad_stacks.specs.StackPlace.{lane_word, record_word, IsStackPlace}
 use Rattle.ad_stacks.specs.Steps.{hand}

@@ -12,7 +12,7 @@ use Rattle.ad_stacks.specs.declared.view.Plan.{Plan}
 use Rattle.ad_stacks.specs.declared.view.Doing.{Doing}
 use Rattle.ad_stacks.specs.declared.view.Doing.TheVariants.{Spent, Worker, Mover}
 use Rattle.ad_stacks.specs.declared.words.TheConstants.{NUMBERS}
-use Rattle.ad_stacks.specs.Account.{NeverFall}
+use Rattle.ad_stacks.specs.History.{NeverFall}
 use Rattle.ad_stacks.specs.StackPlace.{place_at, lane_place, IsStackWord}
 
 -- a seat of the table: its view, and no slots

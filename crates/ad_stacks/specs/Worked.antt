@@ -4,7 +4,7 @@ use Rattle.ad_base.specs.declared.ledger.Kind.TheVariants.{Stack}
 use Rattle.ad_base.specs.declared.ledger.Row.{Row}
 use Rattle.ad_base.specs.declared.place.Place.{Place}
 use Rattle.ad_stacks.specs.declared.view.Given.{Given}
-use Rattle.ad_stacks.specs.Account.{Event, opened, took, put, refreshed}
+use Rattle.ad_stacks.specs.History.{Event, opened, took, put, refreshed}
 
 -- the place of a stack of this mapping number
 abbrev pub worked_place : ℕ → Place
@@ -20,3 +20,7 @@ worked_refresh = record { lane = 0; place = worked_place 2; line = 4 }
 -- a row of lane 0
 abbrev pub worked_row : ℕ → ℕ → ℕ → Row
 worked_row m line unmaps = record { mapping = m; kind = Stack; who = 0; place = worked_place m; line = line; unmaps = unmaps }
+
+-- mapping 1 is retired in line 4 and unmapped once; mapping 2 is neither
+abbrev pub worked_rows : List Row
+worked_rows = worked_row 1 4 1 ∷ worked_row 2 0 0 ∷ []

@@ -1,9 +1,10 @@
 //! The stack table is closed.
 
-ghost use Rattle.std.specs.Prelude.{◌≡◌, ◌≢◌, ◌%◌, ◌^◌, ◌<◌, [], ◌∷◌, length, map, IfOk};
+ghost use Rattle.std.specs.Prelude.{◌≡◌, ◌≢◌, ◌%◌, ◌^◌, ◌<◌, [], ◌∷◌, length, map, All, IfOk};
 ghost use Rattle.std.specs.Mem.Slots.{slots_items, slots_len, IsFull};
 ghost use Rattle.ad_stacks.specs.declared.view.Doing.TheVariants.{Mover};
-ghost use Rattle.ad_stacks.specs.Ledger.{all_given, by_number, rows_given, AreAll, HaveHistory, HaveRows};
+ghost use Rattle.ad_base.specs.Ledger.{IsUnmappedOnce};
+ghost use Rattle.ad_stacks.specs.Ledger.{AreAll, AreRows, HaveHistory, HaveRows};
 ghost use Rattle.ad_stacks.specs.StackPlace.{IsStackWord};
 ghost use Rattle.ad_stacks.specs.Private.Handles.{plan_of, gathered_plan, IsAt, IsMover};
 ghost use Rattle.ad_stacks.specs.Private.Rows.{hand_of, row_at, rows_in, AreRecords};
@@ -27,7 +28,8 @@ impl Stacks {
     ) -> Result<Vec<Row>, OutOfMemory>
         requires mover { mover.table ≡ self.table }
         requires seats { AreAll self.table (length self.openings) seats.items }
-        ensures rows { IfOk result (λ rows. rows.items ≡ by_number (rows_given (all_given self.openings mover.refreshes)) NUMBERS) }
+        ensures rows { IfOk result (λ rows. AreRows self.openings mover.refreshes rows.items) }
+        ensures unmapped { IfOk result (λ rows. All IsUnmappedOnce rows.items) }
         ensures taken { IfOk result (λ rows. HaveRows rows.items seats.items) }
         ensures history { HaveHistory self.openings mover.refreshes seats.items }
     {

@@ -1,10 +1,11 @@
 //! The laws of the steps. Each function makes no call: its contract is the law.
 
 ghost use Rattle.std.specs.Prelude.{◌≡◌, ◌<◌, ℕ, List, [], ◌∷◌, All, AllPairs};
-ghost use Rattle.ad_stacks.specs.declared.view.Given.{Given};
-ghost use Rattle.ad_stacks.specs.Account.{in_lane, gone, line_of, status, takes_of, AreLawful};
-ghost use Rattle.ad_stacks.specs.Ledger.{all_given, by_number, rows_given};
-ghost use Rattle.ad_stacks.specs.Worked.{worked_history, worked_place, worked_refresh, worked_row};
+ghost use Rattle.ad_base.specs.declared.ledger.Row.{Row};
+ghost use Rattle.ad_base.specs.Ledger.{IsLedger, IsUnmappedOnce, Mapping};
+ghost use Rattle.ad_stacks.specs.History.{in_lane, gone, line_of, status, takes_of, AreLawful};
+ghost use Rattle.ad_stacks.specs.Ledger.{by_number, stack_mappings};
+ghost use Rattle.ad_stacks.specs.Worked.{worked_history, worked_place, worked_refresh, worked_rows};
 ghost use Rattle.ad_stacks.specs.Reading.{ReadingLaw, HeldLaw, QuietLaw, LanesLaw, HandsLaw, NumbersLaw, GoneOnceLaw};
 ghost use Rattle.ad_stacks.specs.Laws.{TakeLaw, PutLaw, GoneLaw, MoverGoneLaw, RecordLaw, RefreshLaw, MarkLaw, SplitLaw, JoinLaw};
 
@@ -53,7 +54,7 @@ pub fn law_join()
     ensures { JoinLaw }
 {}
 
-/// The account is read off the words and the views: In off the lanes, Held off the seats' views, and
+/// The state is read off the words and the views: In off the lanes, Held off the seats' views, and
 /// Gone off the record words, or before its unmap step off the view of the seat that owes it. Some seat
 /// holds each stack that is Held, each that a seat owes is Gone, and only a Gone one counts unmap steps.
 pub fn law_reading()
@@ -89,11 +90,12 @@ pub fn law_gone_once()
     ensures { GoneOnceLaw }
 {}
 
-/// The rows of stacks whose numbers rise are in order of number as they stand. So where the numbers of the
-/// opening rise, the rows of a closed table are one for each stack given, in that order.
+/// The ledger of mappings whose numbers rise is in order of number as it stands. So where the numbers of the
+/// opening rise, the rows of a closed table are the ledger of the stacks, in the order in which they were given.
 pub fn law_rows_in_order()
-    ensures { (gs : List Given) (n : ℕ) → AllPairs (λ (g h : Given). g.place.mapping < h.place.mapping) gs
-        → All (λ (g : Given). g.place.mapping < n) gs → by_number (rows_given gs) n ≡ rows_given gs }
+    ensures { (mappings : List Mapping) (rows : List Row) (n : ℕ) → IsLedger mappings rows
+        → AllPairs (λ (m k : Mapping). m.place.mapping < k.place.mapping) mappings
+        → All (λ (m : Mapping). m.place.mapping < n) mappings → by_number rows n ≡ rows }
 {}
 
 /// A worked history: mapping 1 is taken, its lane is given mapping 2 in line 4, and mapping 1 is put back.
@@ -104,5 +106,7 @@ pub fn law_worked_history()
     ensures inside { status worked_history 2 ≡ in_lane 0 (worked_place 2) }
     ensures line { line_of worked_history 1 ≡ 4 }
     ensures takes { takes_of worked_history 0 ≡ worked_place 1 ∷ [] }
-    ensures rows { by_number (rows_given (all_given (worked_place 1 ∷ []) (worked_refresh ∷ []))) 3 ≡ worked_row 1 4 1 ∷ worked_row 2 0 0 ∷ [] }
+    ensures ledger { IsLedger (stack_mappings (worked_place 1 ∷ []) (worked_refresh ∷ [])) worked_rows }
+    ensures unmapped { All IsUnmappedOnce worked_rows }
+    ensures order { by_number worked_rows 3 ≡ worked_rows }
 {}

@@ -4,7 +4,7 @@ ghost use Rattle.std.specs.Prelude.{◌≡◌, ◌≢◌, ◌<◌, ◌≤◌, []
 ghost use Rattle.ad_stacks.specs.declared.view.Stance.TheVariants.{Rest, Holds};
 ghost use Rattle.ad_stacks.specs.declared.view.Doing.TheVariants.{Mover};
 ghost use Rattle.ad_stacks.specs.declared.view.Stage.TheVariants as stage;
-ghost use Rattle.ad_stacks.specs.Account.{NeverFall, IsAbove};
+ghost use Rattle.ad_stacks.specs.History.{NeverFall, IsAbove};
 ghost use Rattle.ad_stacks.specs.Laws.{MayRecord};
 ghost use Rattle.ad_stacks.specs.StackPlace.{place_at, lane_place, IsStackPlace, IsStackWord};
 ghost use Rattle.ad_stacks.specs.Steps.{taken_by};

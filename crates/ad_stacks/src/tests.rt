@@ -1,10 +1,10 @@
 //! What no clause says: worked examples, each call once with ample memory, and threads beside one another.
-//! The expected rows are those of the account, written by hand.
+//! The expected rows are those of the histories, written by hand.
 
 ghost use Rattle.std.specs.Prelude.{◌≡◌, ◌≢◌, ◌+◌, ◌<◌, ◌≤◌, length, vec_len, All, AllPairs, IfOk, IfSome, slice_get};
 ghost use Rattle.std.specs.Thread.{IsSync};
 ghost use Rattle.ad_base.specs.declared.place.Place.{Place};
-ghost use Rattle.ad_stacks.specs.Account.{IsAbove};
+ghost use Rattle.ad_stacks.specs.History.{IsAbove};
 ghost use Rattle.ad_stacks.specs.Ledger.{AreAll};
 ghost use Rattle.ad_stacks.specs.StackPlace.{IsStackPlace};
 

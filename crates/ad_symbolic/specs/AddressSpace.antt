@@ -7,14 +7,20 @@ use Rattle.ad_base.specs.declared.end.End.TheVariants as ends
 use Rattle.ad_base.specs.declared.image.Cell.{Cell}
 use Rattle.ad_base.specs.declared.image.Cell.TheVariants.{Off, Num as Constant}
 use Rattle.ad_base.specs.declared.image.Image.{Image}
-use Rattle.ad_base.specs.declared.layout.TheConstants.{FETCH_BYTES, MODULE_REGION, PAGE_BYTES, REGION_BYTES, REGIONS, STACK_PAGES, WORD_BYTES}
+use Rattle.ad_base.specs.declared.layout.TheConstants.{FETCH_BYTES, PAGE_BYTES, STACK_PAGES, WORD_BYTES}
 use Rattle.ad_base.specs.Image.{movable_pages}
 use Rattle.ad_base.specs.Place.{base_of}
 use Rattle.ad_core.specs.Segments.{Cells, Code, Constants, Data, FixedCode, FixedConstants, FixedData, FixedTable, Rights, Role, Table}
 use Rattle.ad_core.specs.Segments.{Stack as StackRole}
 use Rattle.ad_core.specs.Image.{code_rights, constant_rights, data_rights, page_of_words, text_bytes}
 use Rattle.ad_isa.specs.Domain.{◌>>=◌}
-use Rattle.ad_symbolic.specs.Value.{Address, At, Byte, MixedBytes, Movable, Num, Number, OfAddress, Part, Reason, Stack, Value}
+use Rattle.ad_symbolic.specs.Value.{Byte, Number, OfAddress, is_outside}
+use Rattle.ad_symbolic.specs.declared.value.Reason.TheVariants.{Address, MixedBytes}
+use Rattle.ad_symbolic.specs.declared.value.Value.TheVariants.{At, Num}
+use Rattle.ad_symbolic.specs.declared.value.Part.TheVariants.{Movable, Stack}
+use Rattle.ad_symbolic.specs.declared.value.Part.{Part}
+use Rattle.ad_symbolic.specs.declared.value.Reason.{Reason}
+use Rattle.ad_symbolic.specs.declared.value.Value.{Value}
 
 -- bytes from an offset or an address on
 pub record SymbolicSegment : Type 0 where
@@ -107,10 +113,6 @@ word_from at (Some s) =
 -- the word of the first segment that holds it, among pieces that begin at a base
 abbrev pub word_of_pieces : ℕ → List SymbolicPiece → ℕ → Result (Result ℕ End) Reason
 word_of_pieces base pieces at = word_from at (find (is_within at) (laid_out_bytes base pieces))
-
--- A number below the first region for places, or behind the last one: no place has it.
-abbrev pub is_outside : ℕ → Bool
-is_outside n = nat_lt n (MODULE_REGION * REGION_BYTES) || nat_le (REGIONS * REGION_BYTES) n
 
 -- an offset that is at most a page before a part, or less than a page behind it
 abbrev pub is_beside : ℕ → ℕ → Bool

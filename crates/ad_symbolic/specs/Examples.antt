@@ -1,22 +1,24 @@
 -- Images, address spaces, calls and outcomes of worked examples.
-use Rattle.std.specs.Prelude.{ℕ, ◌+◌, ◌-◌, ◌*◌, List, [], ◌∷◌, ◌++◌, length, codes}
+use Rattle.std.specs.Prelude.{ℕ, ◌+◌, List, [], ◌∷◌, codes}
 use Rattle.std.specs.List.{flat_map}
 use Rattle.byteorder.specs.Endian.{little_bytes}
 use Rattle.ad_base.specs.declared.image.Image.{Image}
-use Rattle.ad_base.specs.declared.layout.TheConstants.{INSTRUCTION_BYTES, PAGE_BYTES, STUB_PAGES, TABLE_PAGES}
+use Rattle.ad_base.specs.declared.layout.TheConstants.{INSTRUCTION_BYTES, STUB_PAGES, TABLE_PAGES}
 use Rattle.ad_base.specs.declared.place.Place.{Place}
-use Rattle.ad_base.specs.Image.{zeros}
+use Rattle.ad_base.specs.Image.{text_image}
 use Rattle.ad_symbolic.specs.AddressSpace.{AddressSpace}
-use Rattle.ad_symbolic.specs.Machine.{Outcome, Returns, fresh_stack}
+use Rattle.ad_isa.specs.Step.{Returns}
+use Rattle.ad_symbolic.specs.Machine.{SymbolicOutcome, fresh_stack}
 use Rattle.ad_symbolic.specs.Replay.{Asked}
-use Rattle.ad_symbolic.specs.Value.{Byte, Value}
+use Rattle.ad_symbolic.specs.Value.{Byte}
+use Rattle.ad_symbolic.specs.declared.value.Value.{Value}
 
 -- an image, with no data and a fresh stack
 abbrev pub space_of : Image → AddressSpace
 space_of i = record { image = i; writable = []; fixed = []; stack = fresh_stack }
 
 -- a run that ended with these: a byte of the data of each part, a note, a word of the queue and what it returns
-abbrev pub ended_with : Image → Byte → Byte → Value → Value → Value → Outcome
+abbrev pub ended_with : Image → Byte → Byte → Value → Value → Value → SymbolicOutcome
 ended_with i writable fixed note word returned = record {
   finish = Returns returned;
   memory = record {
@@ -29,24 +31,7 @@ ended_with i writable fixed note word returned = record {
 -- the module of these instruction words, at most a page of them, which are its one export, and of nothing else;
 -- its immovable part lies at a place
 abbrev pub image_of : List ℕ → Place → Image
-image_of words fixed =
-    let text = flat_map (little_bytes INSTRUCTION_BYTES) words in
-    record {
-      text_pages = 1;
-      read_pages = 0;
-      data_pages = 0;
-      code = text ++ zeros ((1 + STUB_PAGES) * PAGE_BYTES - length text);
-      cells = [];
-      writable = [];
-      table = [];
-      fixed_text_pages = 0;
-      fixed_read_pages = 0;
-      fixed_data_pages = 0;
-      fixed_code = zeros (STUB_PAGES * PAGE_BYTES);
-      fixed_data = [];
-      fixed = fixed;
-      exports = record { name = codes "main"; offset = 0 } ∷ [];
-    }
+image_of words fixed = text_image (flat_map (little_bytes INSTRUCTION_BYTES) words) (record { name = codes "main"; offset = 0 } ∷ []) fixed
 
 -- a call at the start of the text, with these arguments
 abbrev pub asked : List ℕ → Asked

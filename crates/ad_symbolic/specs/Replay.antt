@@ -6,9 +6,13 @@ use Rattle.ad_base.specs.declared.end.End.TheVariants as ends
 use Rattle.ad_base.specs.declared.image.Image.{Image}
 use Rattle.ad_base.specs.Book.{Contents}
 use Rattle.ad_core.specs.Turn.{opening_contents}
-use Rattle.ad_symbolic.specs.Value.{At, Byte, Num, Number, OfAddress, Reason, Value}
+use Rattle.ad_symbolic.specs.Value.{Byte, Number, OfAddress}
+use Rattle.ad_symbolic.specs.declared.value.Value.TheVariants.{At, Num}
+use Rattle.ad_symbolic.specs.declared.value.Reason.{Reason}
+use Rattle.ad_symbolic.specs.declared.value.Value.{Value}
 use Rattle.ad_symbolic.specs.AddressSpace.{numbers_of}
-use Rattle.ad_symbolic.specs.Machine.{Finish, Outcome, Returns, Run, Stops, fresh_stack, symbolic_call}
+use Rattle.ad_isa.specs.Step.{Aborts, Ends, Finish, Returns}
+use Rattle.ad_symbolic.specs.Machine.{SymbolicOutcome, Run, fresh_stack, symbolic_call}
 
 -- nothing of it comes from an address
 abbrev pub is_number_byte : Byte → Bool
@@ -19,13 +23,14 @@ abbrev pub is_number : Value → Bool
 is_number (Num n) = true
 is_number (At p o) = false
 
-abbrev pub is_number_end : Finish → Bool
+abbrev pub is_number_end : Finish Value → Bool
 is_number_end (Returns v) = is_number v
-is_number_end (Stops end) = true
+is_number_end (Aborts v) = is_number v
+is_number_end (Ends end) = true
 
 -- A run keeps no address: at its end no byte of the data of either part, no note, no word of the device
--- queue and no number that is returned comes from one.
-abbrev pub keeps_none : Outcome → Bool
+-- queue and no number that is returned or aborted with comes from one.
+abbrev pub keeps_none : SymbolicOutcome → Bool
 keeps_none o =
     list_all is_number_byte o.memory.space.writable && list_all is_number_byte o.memory.space.fixed
     && list_all is_number o.memory.notes && list_all is_number o.memory.queue && is_number_end o.finish
@@ -36,9 +41,10 @@ number_or_zero (Num n) = n
 number_or_zero (At p o) = 0
 
 -- the end of a call that keeps no address
-abbrev pub end_of : Finish → End
+abbrev pub end_of : Finish Value → End
 end_of (Returns v) = ends.Returned (number_or_zero v)
-end_of (Stops end) = end
+end_of (Aborts v) = ends.Abort (number_or_zero v)
+end_of (Ends end) = end
 
 -- what is said of a call
 pub data Answer : Type 0 where

@@ -3,21 +3,52 @@
 ghost use Rattle.std.specs.Prelude.{◌≡◌, ◌-◌, ◌^◌, ℕ, [], ◌∷◌, Ok, Err, true, false};
 ghost use Rattle.ad_base.specs.declared.image.Image.{Image};
 ghost use Rattle.ad_base.specs.declared.place.Place.{Place};
-ghost use Rattle.ad_symbolic.specs.Value.{Address, Arithmetic, At, Movable, Num, Number, OfAddress, Part, Stack, even_of, sum_of};
+ghost use Rattle.ad_symbolic.specs.Value.{Number, OfAddress, conjunction_of, difference_of, holds_of, other_of, sum_of};
+ghost use Rattle.ad_symbolic.specs.declared.value.Reason.TheVariants.{Address, Arithmetic, Comparison};
+ghost use Rattle.ad_symbolic.specs.declared.value.Value.TheVariants.{At, Num};
+ghost use Rattle.ad_symbolic.specs.declared.value.Part.TheVariants.{Movable, Stack};
+ghost use Rattle.ad_symbolic.specs.declared.value.Part.{Part};
 ghost use Rattle.ad_symbolic.specs.AddressSpace.{fetched_value};
 ghost use Rattle.ad_symbolic.specs.Replay.{Clear, Keeps, Lost, NotClear, clear_calls, keeps_none, replay};
 ghost use Rattle.ad_symbolic.specs.Examples.{asked, ended_with, fixed_place, image_of, jump_words, space_of, sum_words};
 
 use ad_base::End;
+use ad_isa::Test;
 
-/// Sums, and bit 0 cleared.
+/// The arithmetic that is clear, and some that isn't.
 pub fn law_worked_values()
     ensures sum_of_numbers { sum_of (Num (2 ^ 64 - 1)) (Num 2) ≡ Ok (Num 1) }
     ensures sum { (p : Part) → sum_of (At p 8) (Num 4) ≡ Ok (At p 12) }
     ensures sum_the_other_way { (p : Part) → sum_of (Num (2 ^ 64 - 8)) (At p 8) ≡ Ok (At p 0) }
     ensures sum_of_addresses { (p q : Part) (o u : ℕ) → sum_of (At p o) (At q u) ≡ Err Arithmetic }
-    ensures even { (p : Part) → even_of (At p 7) ≡ Ok (At p 6) }
-    ensures even_number { even_of (Num 0x40001) ≡ Ok (Num 0x40000) }
+    ensures difference { (p : Part) → difference_of (At p 8) (Num 12) ≡ Ok (At p (2 ^ 64 - 4)) }
+    ensures difference_in_a_part { difference_of (At Stack 8) (At Stack 12) ≡ Ok (Num (2 ^ 64 - 4)) }
+    ensures difference_across_parts { difference_of (At Stack 8) (At Movable 4) ≡ Err Arithmetic }
+    ensures difference_from_a_number { (p : Part) → difference_of (Num 12) (At p 8) ≡ Err Arithmetic }
+    ensures even { (p : Part) → conjunction_of (At p 7) (Num (2 ^ 64 - 2)) ≡ Ok (At p 6) }
+    ensures even_number { conjunction_of (Num 0x40001) (Num (2 ^ 64 - 2)) ≡ Ok (Num 0x40000) }
+    ensures page { (p : Part) → conjunction_of (Num (2 ^ 64 - 4096)) (At p 8195) ≡ Ok (At p 8192) }
+    ensures offset_in_page { (p : Part) → conjunction_of (At p 8195) (Num 4095) ≡ Ok (Num 3) }
+    ensures no_bit { (p : Part) → conjunction_of (At p 8195) (Num 0) ≡ Ok (Num 0) }
+    ensures all_bits { (p : Part) → conjunction_of (At p 8195) (Num (2 ^ 64 - 1)) ≡ Ok (At p 8195) }
+    ensures wider_than_a_page { (p : Part) → conjunction_of (At p 8195) (Num 8191) ≡ Err Arithmetic }
+    ensures no_mask { (p : Part) → conjunction_of (At p 8195) (Num 5) ≡ Err Arithmetic }
+    ensures other { (p : Part) (o b : ℕ) (f : ℕ → ℕ → ℕ) → other_of f (At p o) (Num b) ≡ Err Arithmetic }
+{}
+
+/// Comparisons, where each part has 8 bytes: of addresses in bounds by their offsets, or as different ones; with
+/// numbers outside all places; and some that aren't clear.
+pub fn law_worked_comparisons()
+    ensures below { holds_of (λ _. 8) Test.Lt (At Stack 4) (At Stack 8) ≡ Ok true }
+    ensures behind_bounds { holds_of (λ _. 8) Test.Eq (At Stack 9) (At Stack 9) ≡ Err Comparison }
+    ensures across_parts { holds_of (λ _. 8) Test.Ne (At Stack 4) (At Movable 4) ≡ Ok true }
+    ensures order_across_parts { holds_of (λ _. 8) Test.Ltu (At Stack 4) (At Movable 4) ≡ Err Comparison }
+    ensures zero { holds_of (λ _. 8) Test.Eq (At Stack 4) (Num 0) ≡ Ok false }
+    ensures below_all_places { holds_of (λ _. 8) Test.Geu (At Stack 4) (Num 0x7ffff) ≡ Ok true }
+    ensures above_all_places { holds_of (λ _. 8) Test.Lt (At Stack 4) (Num (2 ^ 34)) ≡ Ok true }
+    ensures negative { holds_of (λ _. 8) Test.Lt (At Stack 4) (Num (2 ^ 64 - 1)) ≡ Ok false }
+    ensures below_a_great_number { holds_of (λ _. 8) Test.Ltu (At Stack 4) (Num (2 ^ 64 - 1)) ≡ Ok true }
+    ensures among_places { holds_of (λ _. 8) Test.Eq (At Stack 4) (Num 0x80000) ≡ Err Comparison }
 {}
 
 /// What is found where an instruction is fetched: in the stack, which may not be fetched, beside it and far

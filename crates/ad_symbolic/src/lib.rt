@@ -3,7 +3,10 @@
 #![tactic(auto)]
 
 mod laws;
+mod value;
 
 pub use laws::{
-    law_worked_fetches, law_worked_jumps, law_worked_keeps, law_worked_replays, law_worked_values,
+    law_worked_comparisons, law_worked_fetches, law_worked_jumps, law_worked_keeps,
+    law_worked_replays, law_worked_values,
 };
+pub use value::{Part, Reason, Value};

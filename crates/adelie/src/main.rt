@@ -4,5 +4,5 @@
 use std::process::ExitCode;
 
 fn main(rt: HostRuntime) -> ExitCode {
-    ExitCode::from(ad_command::run_process(&rt))
+    ad_command::run_process(&rt)
 }

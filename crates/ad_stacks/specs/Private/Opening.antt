@@ -5,7 +5,7 @@ use Rattle.ad_base.specs.Place.{packed}
 use Rattle.ad_stacks.specs.declared.view.Stage.TheVariants as stage
 use Rattle.ad_stacks.specs.declared.view.Doing.{Doing}
 use Rattle.ad_stacks.specs.declared.view.Doing.TheVariants.{Mover}
-use Rattle.ad_stacks.specs.Account.{Event, opened}
+use Rattle.ad_stacks.specs.History.{Event, opened}
 use Rattle.ad_stacks.specs.Names.{Words, Lane, Record, wrote}
 use Rattle.ad_stacks.specs.StackPlace.{record_word}
 

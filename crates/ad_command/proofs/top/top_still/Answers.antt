@@ -1,5 +1,4 @@
-use Rattle.std.proofs.Common.{◌≡◌, map, string_bytes}
-use Rattle.ad_base.specs.Outside.{Rose}
+use Rattle.std.proofs.Common.{map, string_bytes}
 use Rattle.ad_command.specs.Command.{command}
 use Rattle.ad_command.proofs.Answering.{answers-refused, answers-written, asks}
 use Rattle.ad_command.proofs.top.top_still.Goals as goal
@@ -7,9 +6,8 @@ use Rattle.ad_command.proofs.top.top_still.Goals as goal
 pub returns-in-Ok-clause-told : goal.returns-in-Ok-clause-told
 returns-in-Ok-clause-told g c bytes names due gives are =
     let end = c.in-Ok.ensures in
-    let faults = g.K.Sink.faults in
     answers-written (g.F.Files.outside c.args.files.now) (g.F.Files.outside c.prepare.new.files) (command (map string_bytes c.args.words.now)) end.0 end.1 bytes names due gives are end.2.0
-    (Rose (faults c.args.out.now) (faults c.written.new.out)) (faults c.written.new.out ≡ faults c.args.out.now) (g.K.Sink.taken c.args.out.now) (g.K.Sink.taken c.written.new.out)
+    (g.K.Sink.output c.args.out.now) (g.K.Sink.output c.written.new.out)
     c.written.result.fault c.in-Ok.prepared.text.items end.2.1 c.written.ensures.writes
 
 pub returns-in-Ok-clause-asks : goal.returns-in-Ok-clause-asks

@@ -1,6 +1,6 @@
 use Rattle.std.proofs.Common.{◌≡◌, ◌%◌, IfNone, ◌-◌, ◌++◌, refl, subst, arith}
 use Rattle.ad_core.specs.Segments.{accesses_of_fetch}
-use Rattle.ad_core.specs.Plain.{Outcome, run, at_start}
+use Rattle.ad_core.specs.Plain.{PlainOutcome, plain_run, at_start}
 use Rattle.ad_core.specs.Code.{state_of}
 use Rattle.ad_core.proofs.Runs.{parts, runs_to_gate, comes_spent, comes_ended, run_goes, track_on}
 use Rattle.ad_core.proofs.run.run.Goals as goal
@@ -10,7 +10,7 @@ returns-then-hart-eq-GATE g c =
     let b = g.B.Bus in
     let bus = c.loop.bus in
     let first = c.args.bus.now in
-    let whole : Outcome = run c.args.fuel (state_of c.args.hart.now) (at_start (b.segments first) (b.notes first) (b.queue first)) in
+    let whole : PlainOutcome = plain_run c.args.fuel (state_of c.args.hart.now) (at_start (b.segments first) (b.notes first) (b.queue first)) in
     let i = c.loop.invariant in
     runs_to_gate (b.segments bus) (b.notes bus) (b.queue bus) i.0 (b.track bus) b.rule (b.track first)
     (c.args.fuel - c.loop.counter) (state_of c.loop.hart) whole
@@ -21,7 +21,7 @@ returns-then-hart-eq-GATE-2 g c =
     let b = g.B.Bus in
     let bus = c.loop.bus in
     let first = c.args.bus.now in
-    let whole : Outcome = run c.args.fuel (state_of c.args.hart.now) (at_start (b.segments first) (b.notes first) (b.queue first)) in
+    let whole : PlainOutcome = plain_run c.args.fuel (state_of c.args.hart.now) (at_start (b.segments first) (b.notes first) (b.queue first)) in
     let i = c.loop.invariant in
     let answer = c.first_argument-then-hart-eq-GATE-2 in
     runs_to_gate (b.segments bus) (b.notes bus) (b.queue bus) i.0 (b.track bus) b.rule (b.track first)
@@ -33,7 +33,7 @@ returns-else-hart-eq-GATE-2 g c =
     let b = g.B.Bus in
     let bus = c.loop.bus in
     let first = c.args.bus.now in
-    let whole : Outcome = run c.args.fuel (state_of c.args.hart.now) (at_start (b.segments first) (b.notes first) (b.queue first)) in
+    let whole : PlainOutcome = plain_run c.args.fuel (state_of c.args.hart.now) (at_start (b.segments first) (b.notes first) (b.queue first)) in
     let i = c.loop.invariant in
     comes_spent (b.segments bus) (b.notes bus) (b.queue bus) i.0 (b.track bus) b.rule (b.track first)
     (c.args.fuel - c.loop.counter) (state_of c.loop.hart) whole
@@ -45,7 +45,7 @@ returns-in-Some g c =
     let before = c.loop.bus in
     let bus = c.step.new.bus in
     let first = c.args.bus.now in
-    let whole : Outcome = run c.args.fuel (state_of c.args.hart.now) (at_start (b.segments first) (b.notes first) (b.queue first)) in
+    let whole : PlainOutcome = plain_run c.args.fuel (state_of c.args.hart.now) (at_start (b.segments first) (b.notes first) (b.queue first)) in
     let i = c.loop.invariant in
     let m = parts (b.segments before) (b.notes before) (b.queue before) i.0 in
     let more = accesses_of_fetch c.loop.hart.pc in
@@ -62,7 +62,7 @@ loop-preserved g c =
     let before = c.loop.bus in
     let bus = c.step.new.bus in
     let first = c.args.bus.now in
-    let whole : Outcome = run c.args.fuel (state_of c.args.hart.now) (at_start (b.segments first) (b.notes first) (b.queue first)) in
+    let whole : PlainOutcome = plain_run c.args.fuel (state_of c.args.hart.now) (at_start (b.segments first) (b.notes first) (b.queue first)) in
     let i = c.loop.invariant in
     let m = parts (b.segments before) (b.notes before) (b.queue before) i.0 in
     let more = accesses_of_fetch c.loop.hart.pc in

@@ -1,7 +1,7 @@
 use Rattle.ad_lines.specs.Opening.{opening_drawn, opening_run}
 use Rattle.ad_lines.proofs.BookRuns.{entry-of-call}
 use Rattle.ad_lines.proofs.Opened.{opening-empty, opening-there}
-use Rattle.ad_lines.proofs.RunLaws.{books-lawful, calls-asked, calls-rise, images-stay}
+use Rattle.ad_lines.proofs.RunLaws.{books-lawful, calls-made, calls-rise, images-stay}
 use Rattle.ad_lines.proofs.book_laws.law_books.Goals as goal
 
 pub returns-clause-images : goal.returns-clause-images
@@ -11,7 +11,7 @@ pub returns-clause-lawful : goal.returns-clause-lawful
 returns-clause-lawful c = books-lawful
 
 pub returns-clause-calls : goal.returns-clause-calls
-returns-clause-calls c = calls-asked
+returns-clause-calls c = calls-made
 
 pub returns-clause-order : goal.returns-clause-order
 returns-clause-order c = calls-rise

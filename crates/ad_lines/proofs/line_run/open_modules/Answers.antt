@@ -1,4 +1,4 @@
-use Rattle.std.proofs.Common.{◌≡◌, ◌+◌, ◌*◌, ◌<◌, [], ◌∷◌, ◌++◌, ◌∙◌, ap, sym, refl, length, map, get_or, slice_get, Some, arith, append_assoc, length-append}
+use Rattle.std.proofs.Common.{◌≡◌, ◌<◌, [], ◌∷◌, ◌++◌, ◌∙◌, ap, sym, refl, length, map, get_or, slice_get, Some, arith, append_assoc, length-append}
 use Rattle.std.specs.Prelude.{sum_by}
 use Rattle.std.proofs.lemmas.List.{length-map, length_push, map_push}
 use Rattle.std.proofs.lemmas.Option.{slice_get_read}
@@ -13,7 +13,7 @@ use Rattle.ad_lines.proofs.line_run.open_modules.Goals as goal
 pub loop-image-preserved : goal.loop-image-preserved
 loop-image-preserved c =
     let l = c.loop-image in
-    let places = c.args.places.now in
+    let parts = c.args.parts.now in
     let image = c.in-Some.image in
     let book = c.in_ok-book.book in
     let pushed = c.in_ok-push.ensures in
@@ -22,20 +22,20 @@ loop-image-preserved c =
     let left : (l.yielded ++ image ∷ []) ++ rest ≡ c.args.images.items = append_assoc l.yielded (image ∷ []) rest ∙ ap (λ xs. l.yielded ++ xs) (sym next) ∙ l.invariant.left in
     let none : Place = record { region = 0; start = 0; pages = 0; mapping = 0; frame = 0 } in
     let number = c.len-number.result in
-    let part = get_or places (2 * number + 1) none in
+    let movable = get_or parts number none in
     let at : number ≡ length l.yielded = omega (arith, c.len-number.ensures, l.invariant.len) in
-    let within : 2 * number + 1 < length places =
+    let within : number < length parts =
     omega (arith, c.requires, at, ap length left, length-append (l.yielded ++ image ∷ []) rest, length_push l.yielded image) in
-    let read = slice_get_read places (length places) (2 * number + 1) part refl within (default-same places (2 * number + 1) none part within) in
-    let there : slice_get places (2 * length l.yielded + 1) ≡ Some part = ap (λ n. slice_get places (2 * n + 1)) (sym at) ∙ read in
-    let m : ModuleRun = record { image = image; part = part; book = book } in
+    let read = slice_get_read parts (length parts) number movable refl within (default-same parts number none movable within) in
+    let there : slice_get parts (length l.yielded) ≡ Some movable = ap (slice_get parts) (sym at) ∙ read in
+    let m : ModuleRun = record { image = image; movable = movable; book = book } in
     record {
       modules =
           ap (map module_state) pushed.items
           ∙ map_push module_state l.modules.items m
           ∙ ap (λ xs. xs ++ module_state m ∷ []) l.invariant.modules
-          ∙ ap (λ b. opening_modules l.yielded places ++ record { image = image; part = part; book = b } ∷ []) c.in_ok-book.ensures.opening
-          ∙ sym (modules-push l.yielded places image part there);
+          ∙ ap (λ b. opening_modules l.yielded parts ++ record { image = image; movable = movable; book = b } ∷ []) c.in_ok-book.ensures.opening
+          ∙ sym (modules-push l.yielded parts image movable there);
       left = left;
       len = omega (arith, pushed.len, l.invariant.len, length_push l.yielded image);
       rooms = λ k room e.

@@ -9,7 +9,7 @@ returns-clause-ledger c = λ seed workers fuel images steps loaded are. (sound-r
 
 pub returns-clause-unmapped : goal.returns-clause-unmapped
 returns-clause-unmapped c = λ seed workers fuel images steps loaded are.
-    all-each IsUnmappedOnce (run_of_seed seed workers images fuel steps).placement.mappings (sound-run seed workers fuel images loaded steps are).sound.once
+    all-each IsUnmappedOnce (run_of_seed seed workers images fuel steps).placement.rows (sound-run seed workers fuel images loaded steps are).sound.once
 
 pub returns-clause-places : goal.returns-clause-places
 returns-clause-places c = λ seed workers fuel images steps loaded are. (sound-run seed workers fuel images loaded steps are).sound.places

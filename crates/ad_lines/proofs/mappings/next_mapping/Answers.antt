@@ -1,7 +1,7 @@
 use Rattle.std.proofs.Common.{◌≡◌, ◌+◌, ◌∙◌, ◌++◌, ◌∷◌, [], ap, length, vec_capacity, subst, sym}
 use Rattle.std.proofs.lemmas.List.{length_push}
 use Rattle.ad_lines.specs.LineRun.{replaced}
-use Rattle.ad_lines.specs.Room.{IsMappingList}
+use Rattle.ad_lines.specs.Private.Places.{IsMappingList}
 use Rattle.ad_lines.proofs.Rows.{list-replaced}
 use Rattle.ad_lines.proofs.mappings.next_mapping.Goals as goal
 

@@ -6,17 +6,17 @@ use Rattle.ad_base.specs.declared.layout.TheConstants.{FRAMES, MAPPINGS, MODULE_
 use Rattle.ad_base.specs.Image.{IsWhole, zeros}
 use Rattle.ad_base.specs.declared.image.Export.{Export}
 use Rattle.ad_base.specs.Place.{IsPlace}
-use Rattle.ad_core.specs.Plain.{first_registers, plain_call, plain_step, run}
+use Rattle.ad_core.specs.Plain.{first_registers, plain_call, plain_step, plain_run}
 use Rattle.ad_core.specs.Segments.{fetched}
 use Rattle.ad_core.specs.Turn.{IsTurn, opening_contents}
 use Rattle.ad_isa.specs.Fields.{funct3, funct7, i_immediate, opcode, rd, rs1, rs2, u_immediate}
 use Rattle.ad_isa.specs.Rows.{effect}
 use Rattle.ad_isa.specs.Step.{step}
-use Rattle.ad_isa.specs.Table.{decoded}
+use Rattle.ad_isa.specs.Table.{decoded, rows}
 use Rattle.ad_symbolic.specs.AddressSpace.{fetched_value}
-use Rattle.ad_symbolic.specs.Machine.{first_values, run as run_values, symbolic_call, symbolic_step}
+use Rattle.ad_symbolic.specs.Machine.{first_values, symbolic_run as run_values, symbolic_call, symbolic_step}
 use Rattle.ad_symbolic.specs.Replay.{replay}
-use Rattle.ad_relate.specs.ClearHistory.{places_of}
+use Rattle.ad_relate.specs.ClearHistory.{entry_places}
 use Rattle.ad_relate.specs.Examples.{book_of, first_place, second_place, stack_place, sum_book, sum_entry, sum_image}
 use Rattle.ad_relate.specs.Stands.{IsApart}
 use Rattle.ad_symbolic.specs.Examples.{fixed_place}
@@ -28,11 +28,11 @@ export = record { name = codes "main"; offset = 0 }
 
 -- each call is a turn
 first : IsTurn sum_image 100 (opening_contents sum_image) (sum_entry 1 (2 ∷ 3 ∷ []) first_place 5) (book_of (sum_entry 1 (2 ∷ 3 ∷ []) first_place 5 ∷ []))
-unfolding export zeros plain_call run plain_step first_registers fetched step effect decoded opcode rd funct3 rs1 rs2 funct7 i_immediate u_immediate
+unfolding export zeros plain_call plain_run plain_step first_registers fetched step effect decoded rows opcode rd funct3 rs1 rs2 funct7 i_immediate u_immediate
 first = record { export = export; exists = refl; entries = refl; end = refl; notes = refl; writable = refl; fixed = refl; device = refl }
 
 second : IsTurn sum_image 100 (book_of (sum_entry 1 (2 ∷ 3 ∷ []) first_place 5 ∷ [])) (sum_entry 3 (4 ∷ 3 ∷ []) second_place 7) sum_book
-unfolding export zeros plain_call run plain_step first_registers fetched step effect decoded opcode rd funct3 rs1 rs2 funct7 i_immediate u_immediate
+unfolding export zeros plain_call plain_run plain_step first_registers fetched step effect decoded rows opcode rd funct3 rs1 rs2 funct7 i_immediate u_immediate
 second = record { export = export; exists = refl; entries = refl; end = refl; notes = refl; writable = refl; fixed = refl; device = refl }
 
 -- its places are apart, whichever pages of a region the movable part has
@@ -81,11 +81,11 @@ returns-clause-lawful c = (book_of (sum_entry 1 (2 ∷ 3 ∷ []) first_place 5 �
 
 pub returns-clause-apart : goal.returns-clause-apart
 returns-clause-apart c =
-    let P : Entry → Type 0 = λ e. IsApart sum_image (places_of e) in
+    let P : Entry → Type 0 = λ e. IsApart sum_image (entry_places e) in
     let second = sum_entry 3 (4 ∷ 3 ∷ []) second_place 7 in
     All-cons P (sum_entry 1 (2 ∷ 3 ∷ []) first_place 5) (second ∷ []) (apart 1 3 0 (lit≤ tt) (lit< tt) (lit≤ tt) (lit≤ tt) (lit< tt))
     (All-cons P second [] (apart 7 4 1 (lit≤ tt) (lit< tt) (lit≤ tt) (lit≤ tt) (lit< tt)) (All-nil P))
 
 pub returns-clause-clear : goal.returns-clause-clear
-unfolding zeros funct3 funct7 i_immediate opcode rd rs1 rs2 u_immediate effect decoded fetched_value first_values run_values symbolic_call symbolic_step replay
+unfolding zeros funct3 funct7 i_immediate opcode rd rs1 rs2 u_immediate effect decoded rows fetched_value first_values run_values symbolic_call symbolic_step step replay
 returns-clause-clear c = refl

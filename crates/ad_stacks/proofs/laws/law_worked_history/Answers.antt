@@ -23,6 +23,9 @@ second = record {
 pub returns-clause-lawful : goal.returns-clause-lawful
 returns-clause-lawful c = (refl, (record { lane = lit< tt; place = second; above = (lit< tt, tt); from_line = lit< tt }, (record { is_in = refl; free = refl }, (record { next = refl; place = first; fresh = refl; first = refl }, tt))))
 
-pub returns-clause-rows : goal.returns-clause-rows
+pub returns-clause-ledger : goal.returns-clause-ledger
+returns-clause-ledger c = (record { number = refl; kind = refl; who = refl; place = refl; line = refl }, (record { number = refl; kind = refl; who = refl; place = refl; line = refl }, refl))
+
+pub returns-clause-order : goal.returns-clause-order
 unfolding by_number
-returns-clause-rows c = refl
+returns-clause-order c = refl

@@ -1,5 +1,5 @@
 use Rattle.std.proofs.Common.{◌≡◌, ◌+◌}
-use Rattle.ad_stacks.specs.Account.{IsAbove}
+use Rattle.ad_stacks.specs.History.{IsAbove}
 use Rattle.ad_stacks.proofs.tests.renew_from.Given as goal
 
 abbrev pub invariant-loop-more : goal.invariant-loop-more

@@ -47,6 +47,6 @@ returns-clause-call_room c =
     let within = within-images r.modules.items r.stacks.items p c.args.self.now.state n (ap (λ (v : Running). v.state) c.self.view_is) c.requires.called in
     let here = room-here r.modules.items n m within c.index_mut-called.ensures.value in
     let left : c.run_call.new.book.history.room ≡ slice_index (map room_of r.modules.items) n - 1 = omega (arith, here, c.run_call.ensures.room) in
-    room-set r.modules.items n m within c.index_mut-called.ensures.value c.run_call.new.book m.part
+    room-set r.modules.items n m within c.index_mut-called.ensures.value c.run_call.new.book m.movable
     ∙ ap (set (map room_of r.modules.items) n) left
     ∙ ap (λ (v : Running). set v.call_room n (slice_index v.call_room n - 1)) c.self.view_is

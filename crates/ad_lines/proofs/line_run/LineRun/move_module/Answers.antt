@@ -18,9 +18,9 @@ returns-clause-state c =
     let first = slice_get_read r.modules.items (length r.modules.items) n x refl within c.index.ensures in
     let second = slice_get_read r.modules.items (length r.modules.items) n m refl within c.index_mut-moved.ensures.value in
     let same : x ≡ m = cc in
-    let end = c.replace-end.ensures.end ∙ ap (λ (y : ModuleRun). move_end p.drawn Code y.part.pages) same in
-    let place = c.unwrap_or-moved.ensures ∙ (λ j. unwrap_or (c.place.ensures j) (same j).part) ∙ ap (place_after m.part) end in
-    let after = c.replace-end.ensures.after ∙ ap (λ (y : ModuleRun). after_move p c.args.line Code n y.part) same in
+    let end = c.replace-end.ensures.end ∙ ap (λ (y : ModuleRun). move_end p.drawn Code y.movable.pages) same in
+    let place = c.unwrap_or-moved.ensures ∙ (λ j. unwrap_or (c.place.ensures j) (same j).movable) ∙ ap (place_after m.movable) end in
+    let after = c.replace-end.ensures.after ∙ ap (λ (y : ModuleRun). after_move p c.args.line Code n y.movable) same in
     moved r.modules.items n m within c.index_mut-moved.ensures.value c.args.line r.stacks.items p c.replace-end.new.self.placement c.unwrap_or-moved.result place after
     ∙ ap (λ (v : Running). with_module_moved c.args.line v.state n) c.self.view_is
 

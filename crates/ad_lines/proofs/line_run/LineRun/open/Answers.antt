@@ -1,40 +1,38 @@
-use Rattle.std.proofs.Common.{◌≡◌, ◌-◌, ◌∙◌, ap, sym, subst, length, take, drop, arith, length-take, length-drop}
-use Rattle.std.specs.List.{All}
-use Rattle.std.proofs.lemmas.List.{take_all}
+use Rattle.std.proofs.Common.{◌≡◌, ◌∙◌, ap, sym, subst, List, [], length, map, arith}
+use Rattle.std.specs.List.{All, filter}
+use Rattle.ad_base.specs.declared.image.Image.{Image}
+use Rattle.ad_base.specs.declared.ledger.Kind.{Kind}
+use Rattle.ad_base.specs.declared.ledger.Kind.TheVariants.{Code, Stack}
+use Rattle.ad_base.specs.declared.ledger.Row.{Row}
+use Rattle.ad_base.specs.Ledger.{is_same_kind}
 use Rattle.ad_place.specs.Choice.{Drawn}
-use Rattle.ad_lines.specs.Opening.{opening_modules}
-use Rattle.ad_lines.specs.Room.{AreNumberedPlaces, IsMapped}
 use Rattle.ad_lines.specs.LineRun.{Placement}
-use Rattle.ad_lines.proofs.Opens.{length-drawn, length-rows, mapped, numbered, opening-sound}
+use Rattle.ad_lines.specs.Opening.{opening_mappings, opening_modules, opening_requests, opening_run, places_of_kind, row_of}
+use Rattle.ad_lines.specs.Private.Places.{AreNumberedPlaces, IsMapped}
+use Rattle.ad_lines.proofs.Opens.{drawn-each, kind-of-rows, length-rows, mapped, numbered, opening-sound, parts-count}
 use Rattle.ad_lines.proofs.line_run.LineRun.open.Goals as goal
 
-pub slice_bounds-from_slice-end : goal.slice_bounds-from_slice-end
-slice_bounds-from_slice-end c =
-    let long = length-drawn c.args.placer.seed c.args.workers c.args.images.items c.requires.loaded in
-    let same = ap (λ (d : Drawn). length d.places) c.requires.drawn in
-    omega (arith, long, same, ap length c.places-places.ensures, length-take c.args.workers c.places-places.result.now)
+pub open-requires-clause-numbered : goal.open-requires-clause-numbered
+open-requires-clause-numbered c = subst (λ (d : Drawn). AreNumberedPlaces d.places) (sym c.requires.drawn) (numbered c.args.placer.seed c.args.workers c.args.images.items c.requires.loaded)
 
-pub slice_bounds-open_modules-count : goal.slice_bounds-open_modules-count
-slice_bounds-open_modules-count c =
-    let long = length-drawn c.args.placer.seed c.args.workers c.args.images.items c.requires.loaded in
-    let same = ap (λ (d : Drawn). length d.places) c.requires.drawn in
-    omega (arith, long, same, ap length c.places-places.ensures)
+pub open-requires-clause-each : goal.open-requires-clause-each
+open-requires-clause-each c =
+    ap (λ (is : List Image). length (opening_requests c.args.workers is)) c.deref.ensures.value
+    ∙ drawn-each c.args.placer.seed c.args.workers c.args.images.items c.requires.loaded
+    ∙ ap (λ (d : Drawn). length d.places) (sym c.requires.drawn)
 
 pub open_modules-requires : goal.open_modules-requires
 open_modules-requires c =
-    let long = length-drawn c.args.placer.seed c.args.workers c.args.images.items c.requires.loaded in
-    let same = ap (λ (d : Drawn). length d.places) c.requires.drawn in
-    let places = c.places-places.result.now in
-    omega (arith, long, same, ap length c.places-places.ensures, length-drop c.args.workers places, length-take (length places - c.args.workers) (drop c.args.workers places))
-
-pub open-requires : goal.open-requires
-open-requires c = record { numbered = subst (λ (d : Drawn). AreNumberedPlaces d.places) (sym c.requires.drawn) (numbered c.args.placer.seed c.args.workers c.args.images.items c.requires.loaded) }
-
-pub slice_bounds-open_modules-start : goal.slice_bounds-open_modules-start
-slice_bounds-open_modules-start c =
-    let long = length-drawn c.args.placer.seed c.args.workers c.args.images.items c.requires.loaded in
-    let same = ap (λ (d : Drawn). length d.places) c.requires.drawn in
-    omega (arith, long, same, ap length c.places-places.ensures)
+    let seed = c.args.placer.seed in
+    let workers = c.args.workers in
+    let images = c.args.images.items in
+    let rows = ap (λ (p : Placement). p.rows) c.in_ok-mappings.ensures.placement ∙ ap (λ (is : List Image). map row_of (opening_mappings workers is c.args.placer.places)) c.deref.ensures.value in
+    let parts =
+    c.deref-2.ensures.value ∙ c.in_ok-parts.ensures
+    ∙ ap (λ (rs : List Row). map (λ (r : Row). r.place) (filter (λ (r : Row). is_same_kind Code r.kind) rs)) rows
+    ∙ kind-of-rows Code (opening_mappings workers images c.args.placer.places)
+    ∙ ap (λ (d : Drawn). places_of_kind Code (opening_mappings workers images d.places)) c.requires.drawn in
+    omega (arith, ap length parts, parts-count seed workers images c.requires.loaded)
 
 pub invariant_of-result : goal.invariant_of-result
 invariant_of-result c =
@@ -42,16 +40,30 @@ invariant_of-result c =
     let workers = c.args.workers in
     let images = c.args.images.items in
     let places = c.args.placer.places in
-    let seen = c.places-places.result.now in
-    let count = length c.in_ok-mappings.mappings.placement.mappings in
-    let rows = ap (λ (p : Placement). length p.mappings) c.in_ok-mappings.ensures.placement in
-    let long : count ≡ length places = rows ∙ length-rows workers places in
+    let requests = opening_requests workers images in
+    let count = length c.in_ok-mappings.mappings.placement.rows in
+    let rows = ap (λ (p : Placement). p.rows) c.in_ok-mappings.ensures.placement ∙ ap (λ (is : List Image). map row_of (opening_mappings workers is places)) c.deref.ensures.value in
+    let found = λ (kind : Kind). ap (λ (rs : List Row). map (λ (r : Row). r.place) (filter (λ (r : Row). is_same_kind kind r.kind) rs)) rows ∙ kind-of-rows kind (opening_mappings workers images places) in
     let same = ap (λ (d : Drawn). length d.places) c.requires.drawn in
+    let each = drawn-each seed workers images c.requires.loaded ∙ sym same in
+    let long : count ≡ length places = ap length rows ∙ length-rows requests places each in
     let at : All (IsMapped count) places = subst (λ (d : Drawn). All (IsMapped count) d.places) (sym c.requires.drawn) (mapped seed workers images c.requires.loaded count (omega (arith, long, same))) in
-    let all : take (length seen - workers) (drop workers seen) ≡ drop workers places = take_all (length seen - workers) (drop workers seen) (omega (arith, length-drop workers seen)) ∙ ap (drop workers) c.places-places.ensures in
-    opening-sound count workers images places c.in_ok-modules.modules.items c.in_ok-stacks.stacks.items c.requires.loaded.whole at
-    (c.in_ok-modules.ensures.modules ∙ ap (opening_modules images) all)
-    (c.in_ok-stacks.ensures.items ∙ ap (take workers) c.places-places.ensures)
+    opening-sound count requests images places c.in_ok-modules.modules.items c.in_ok-stacks.stacks.items c.requires.loaded.whole at
+    (c.in_ok-modules.ensures.modules ∙ ap (opening_modules images) (c.deref-2.ensures.value ∙ c.in_ok-parts.ensures ∙ found Code))
+    (c.in_ok-stacks.ensures ∙ found Stack)
+
+pub returns-clause-state : goal.returns-clause-state
+unfolding opening_run
+returns-clause-state c =
+    let workers = c.args.workers in
+    let images = c.args.images.items in
+    let places = c.args.placer.places in
+    let placement = c.in_ok-mappings.ensures.placement ∙ ap (λ (is : List Image). record { drawn = c.args.placer; moves = []; rows = map row_of (opening_mappings workers is places) }) c.deref.ensures.value in
+    let rows = ap (λ (p : Placement). p.rows) placement in
+    let found = λ (kind : Kind). ap (λ (rs : List Row). map (λ (r : Row). r.place) (filter (λ (r : Row). is_same_kind kind r.kind) rs)) rows ∙ kind-of-rows kind (opening_mappings workers images places) in
+    let modules = c.in_ok-modules.ensures.modules ∙ ap (opening_modules images) (c.deref-2.ensures.value ∙ c.in_ok-parts.ensures ∙ found Code) in
+    let stacks = c.in_ok-stacks.ensures ∙ found Stack in
+    λ j. record { modules = modules j; stacks = stacks j; placement = placement j }
 
 pub returns-clause-room : goal.returns-clause-room
 returns-clause-room c =

@@ -1,0 +1,5 @@
+use Rattle.ad_command.proofs.Loads.{IsLoading}
+use Rattle.ad_command.proofs.load.load_images.Given as goal
+
+abbrev pub invariant-loop-load : goal.invariant-loop-load
+invariant-loop-load g l = IsLoading l.fn.seed l.fn.script (g.F.Files.outside l.fn.files) (g.F.Files.outside l.files) l.placer l.images.items l.load-index

@@ -1,0 +1,10 @@
+pub mod Below
+pub mod Tables
+pub mod Ends
+pub mod Found
+pub mod Rows
+pub mod Targets
+pub mod Sound
+pub mod InRange
+pub mod OneAnswer
+pub mod Computed

@@ -1,8 +1,0 @@
-use Rattle.std.proofs.Common.{refl}
-use Rattle.ad_events.specs.Owed.{opening}
-use Rattle.ad_events.specs.OwedExamples.{schedule}
-use Rattle.ad_events.proofs.OwedTests.{MayRun-tested}
-use Rattle.ad_events.proofs.owed.schedule_of_two.Goals as goal
-
-pub returns-clause-possible : goal.returns-clause-possible
-returns-clause-possible c = MayRun-tested (opening 2 2) schedule refl

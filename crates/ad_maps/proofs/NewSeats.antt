@@ -1,0 +1,29 @@
+-- The seats that are dealt as the table is opened.
+use Rattle.std.proofs.Common.{◌≡◌, ℕ, ◌+◌, List, [], ◌∷◌, ◌++◌, length, length-append, get_or, Some, refl, sym, ap, ◌∙◌, inl, inr, arith}
+use Rattle.std.specs.List.{slice_get}
+use Rattle.std.proofs.Math.Seq.{get_or-append_seam}
+use Rattle.std.proofs.lemmas.Bool.{cases_eq}
+use Rattle.std.proofs.lemmas.List.{get_or_append_left}
+use Rattle.std.proofs.lemmas.Option.{slice_get-get_or}
+use Rattle.atomic_table.specs.Seated.{TableId}
+use Rattle.ad_maps.specs.Seen.{SeatSeen, new_seat, AreNew}
+
+pub none_new : (table : TableId) → AreNew table 0 []
+none_new table = record { count = refl; each = λ w l. absurd (omega arith) }
+
+-- one seat more
+pub one_new : (table : TableId) (k : ℕ) (seats : List SeatSeen) → AreNew table k seats → AreNew table (k + 1) (seats ++ new_seat table k ∷ [])
+one_new table k seats are = record {
+  count = length-append seats (new_seat table k ∷ []) ∙ ap (λ (n : ℕ). n + 1) are.count;
+  each = λ w l.
+      elim (cases_eq w k) [
+        | inl e ↦ here w (e ∙ sym are.count) ∙ ap (λ (j : ℕ). Some (new_seat table j)) (sym e)
+        | inr ne ↦
+            slice_get-get_or (seats ++ new_seat table k ∷ []) w (new_seat table w) (let n = are.count in omega (arith, length-append seats (new_seat table k ∷ [])))
+            ∙ (ap (λ (s : SeatSeen). Some s) (get_or_append_left seats (new_seat table k ∷ []) (new_seat table w) w (let n = are.count in omega arith)) ∙ (sym (slice_get-get_or seats w (new_seat table w) (let n = are.count in omega arith)) ∙ are.each w (omega arith)))
+      ];
+}
+  where
+    here : (w : ℕ) → w ≡ length seats → slice_get (seats ++ new_seat table k ∷ []) w ≡ Some (new_seat table k)
+    here w e = slice_get-get_or (seats ++ new_seat table k ∷ []) w (new_seat table k) (omega (arith, length-append seats (new_seat table k ∷ [])))
+        ∙ ap (λ (s : SeatSeen). Some s) (ap (λ (j : ℕ). get_or (seats ++ new_seat table k ∷ []) j (new_seat table k)) e ∙ get_or-append_seam seats (new_seat table k) [] (new_seat table k))

@@ -1,0 +1,112 @@
+-- The world is read off the words and the views.
+use Rattle.std.proofs.Common.{◌≡◌, ⊎_elim, inl, inr, ℕ, ◌+◌, ◌*◌, ◌%◌, ◌^◌, ◌<◌, true, length, get_or, Some, IsSome, refl, sym, ap, ◌∙◌, subst, arith}
+use Rattle.std.specs.Prelude.{count_by}
+use Rattle.std.specs.FinMap as map
+use Rattle.std.specs.FinSet as set
+use Rattle.std.proofs.lemmas.Bool.{cases_lt}
+use mathlib.Core.Option.{some}
+use lib.ListN.{get_elem?}
+use Rattle.ad_base.specs.declared.place.Place.{Place}
+use Rattle.ad_events.specs.declared.mapping.Mapping.{Mapping}
+use Rattle.ad_events.specs.World.{IsWorld}
+use Rattle.ad_events.specs.Owed as owing
+use Rattle.ad_events.specs.Owed.{seat_at, pushed_on, inside_of}
+use Rattle.ad_events.proofs.Functions.{some≢none}
+use Rattle.ad_events.proofs.OwedWrites.{inside-away, inside-paying}
+use Rattle.ad_events.proofs.WorldLaws.{none_gone_inside}
+use Rattle.ad_maps.specs.declared.shape.Shape.{Shape}
+use Rattle.ad_maps.specs.declared.view.Stance.{Stance}
+use Rattle.ad_maps.specs.declared.view.Stance.TheVariants as stance
+use Rattle.ad_maps.specs.declared.view.Hand.{Hand}
+use Rattle.ad_maps.specs.declared.view.Doing.TheVariants.{Worker}
+use Rattle.ad_maps.specs.MapPlace.{place_at}
+use Rattle.ad_maps.specs.Names.{Slot, Directory}
+use Rattle.ad_maps.specs.Reading.{IsAtStance, DirectorySays, ReadingLaw}
+use Rattle.ad_maps.specs.Rule.{St, Kept, StanceStands, seat_of}
+use Rattle.ad_maps.specs.Steps.{hand}
+use Rattle.ad_maps.proofs.Frames.{worker_knows}
+use Rattle.ad_maps.proofs.Machine.{holds_of}
+use Rattle.ad_maps.proofs.MappingFrames.{mover_knows}
+use Rattle.ad_maps.proofs.Numbers.{region-few}
+use Rattle.ad_maps.proofs.Pinned.{gone-or}
+use Rattle.ad_maps.proofs.ReadLaw.{current_known}
+
+module _ (shape : Shape) (s : St) (r : Kept shape s) where
+  directory_says : (n : ℕ) (x : Mapping) → map.get r.state.world.mappings n ≡ Some x → DirectorySays s n x
+  directory_says n x there =
+      let old = r.mappings.each n x there in
+      let p : Place = r.places n in
+      let word = r.reads.1 (Directory p.region) (region-few shape x.module p old.form) in
+      (p, old.number, ⊎_elim (λ gone. inl (gone.0, word ∙ gone.1)) (λ here. inr (here.0, word ∙ here.1.word)) (gone-or shape r.words.directory r.words.owner r.words.cell x.module p x.status old.words))
+
+  is_inside_at : (w entry m : ℕ) (p : Place) → IsAtStance s.views w (stance.Inside entry m p) → map.get r.state.world.inside w ≡ Some p.mapping
+  is_inside_at w entry m p at = (worker_knows shape s r at.0 w (hand at.1 (stance.Inside entry m p) at.2 at.3) at.4).hand.stance.0
+
+  -- a worker whose seat is inside in the machine has a seat here, with its stance
+  has_seat : (w : ℕ) → owing.IsInside (seat_at r.state.owed w) → get_elem? s.views (r.seater w) ≡ some (Worker w (r.hands w))
+  has_seat w is =
+      let away : ((r.hands w).stance ≡ stance.Away) → ⊥ = λ e. inside-away (seat_at r.state.owed w) is.0 is.1 is.2 (r.each_stance w ∙ ap (seat_of (w % shape.slots)) e) in
+      elim (cases_lt w (length r.plan.back)) [
+        | inl low ↦ absurd (away (r.dealt.back w low).0)
+        | inr out ↦
+            elim (cases_lt w r.plan.dealt) [
+              | inl dealt ↦ r.seated.worker w out dealt
+              | inr far ↦ absurd (away (ap (λ (h : Hand). h.stance) (r.dealt.undealt w far)))
+            ]
+      ]
+
+  at_stance : (w : ℕ) (d : Stance) → owing.IsInside (seat_at r.state.owed w) → (r.hands w).stance ≡ d → IsAtStance s.views w d
+  at_stance w d is e = let h = r.hands w in (r.seater w, h.slot, h.gives, h.acts, has_seat w is ∙ ap (λ (x : Stance). some (Worker w (hand h.slot x h.gives h.acts))) e)
+
+  world_of : IsWorld r.state.world
+  world_of = (holds_of shape r.form r.state r.reached).world
+
+  inside_by : (w n : ℕ) → map.get r.state.world.inside w ≡ Some n → (entry : ℕ) × (m : ℕ) × (p : Place) × (p.mapping ≡ n) × IsAtStance s.views w (stance.Inside entry m p)
+  inside_by w n there = by_stance (r.hands w).stance refl (r.each_hand w).stance
+    where
+      is : owing.IsInside (seat_at r.state.owed w)
+      is = (holds_of shape r.form r.state r.reached).in_inside w (inr (subst IsSome (sym there) refl))
+
+      by_stance : (d : Stance) → (r.hands w).stance ≡ d → StanceStands r.state.world r.places w d → (entry : ℕ) × (m : ℕ) × (p : Place) × (p.mapping ≡ n) × IsAtStance s.views w (stance.Inside entry m p)
+      by_stance stance.Away e h = absurd (inside-away (seat_at r.state.owed w) is.0 is.1 is.2 (r.each_stance w ∙ ap (seat_of (w % shape.slots)) e))
+      by_stance (stance.Entered entry) e h = absurd (some≢none n (sym there ∙ world_of.fits.apart w h))
+      by_stance (stance.Inside entry m p) e h = (entry, m, p, (let same : Some p.mapping ≡ Some n = sym h.0 ∙ there in let number : p.mapping ≡ n = cc in number), at_stance w (stance.Inside entry m p) is e)
+      by_stance (stance.Paying paid last) e h = absurd (inside-paying (seat_at r.state.owed w) is.0 is.1 (w % shape.slots) paid last is.2 (r.each_stance w ∙ ap (seat_of (w % shape.slots)) e))
+
+  entered_by : (w : ℕ) → set.contains r.state.world.entered w ≡ true → (entry : ℕ) × IsAtStance s.views w (stance.Entered entry)
+  entered_by w there = by_stance (r.hands w).stance refl (r.each_hand w).stance
+    where
+      is : owing.IsInside (seat_at r.state.owed w)
+      is = (holds_of shape r.form r.state r.reached).in_inside w (inl there)
+
+      by_stance : (d : Stance) → (r.hands w).stance ≡ d → StanceStands r.state.world r.places w d → (entry : ℕ) × IsAtStance s.views w (stance.Entered entry)
+      by_stance stance.Away e h = absurd (inside-away (seat_at r.state.owed w) is.0 is.1 is.2 (r.each_stance w ∙ ap (seat_of (w % shape.slots)) e))
+      by_stance (stance.Entered entry) e h = (entry, at_stance w (stance.Entered entry) is e)
+      by_stance (stance.Inside entry m p) e h = absurd (some≢none p.mapping (sym h.0 ∙ world_of.fits.apart w there))
+      by_stance (stance.Paying paid last) e h = absurd (inside-paying (seat_at r.state.owed w) is.0 is.1 (w % shape.slots) paid last is.2 (r.each_stance w ∙ ap (seat_of (w % shape.slots)) e))
+
+  slot_counts : (t : ℕ) → t < shape.slots → get_or s.words t 0 ≡ count_by (owing.is_inside t) r.state.owed.seats
+  slot_counts t low =
+      let few = r.form.few_slots in
+      let holds = (holds_of shape r.form r.state r.reached).owed in
+      let slots = r.owing.slots in
+      let there : t < length r.state.owed.slots = omega arith in
+      let pushed = holds.pushed t there in
+      let none = r.no_batch.unopened in
+      let count = holds.inside t there in
+      let word = r.reads.1 (Slot t) (let b : t < 16 = omega arith in b) ∙ r.owing.each_slot t low in
+      word ∙ ((let zero_high : pushed_on r.state.owed t ≡ 0 = omega arith in let sum : 2 ^ 32 * pushed_on r.state.owed t + inside_of r.state.owed t ≡ inside_of r.state.owed t = omega arith in sum) ∙ count)
+
+pub reading_law : ReadingLaw
+reading_law shape s r = record {
+  current = λ m low. (let k = current_known shape s r m low in (place_at (get_or s.words (16 + m) 0), k.is.there, k.word));
+  fresh = λ id q at. (mover_knows shape s r id q at).mappings.fresh;
+  outs = λ id q at. (mover_knows shape s r id q at).mappings.outs;
+  directory = directory_says shape s r;
+  inside = is_inside_at shape s r;
+  inside_by = inside_by shape s r;
+  entered = λ w entry at. (worker_knows shape s r at.0 w (hand at.1 (stance.Entered entry) at.2 at.3) at.4).hand.stance;
+  entered_by = entered_by shape s r;
+  pinned = λ w entry m p at. (let there = is_inside_at shape s r w entry m p at in ((world_of shape s r).fits.held w p.mapping there, none_gone_inside r.state.world (world_of shape s r) w p.mapping there));
+  slots = slot_counts shape s r;
+}

@@ -1,0 +1,51 @@
+-- The mappings that were made, and what a seat's list of steps tells.
+use Rattle.std.specs.Prelude.{ℕ, ◌+◌, ◌≤◌, ◌==◌, List, [], ◌∷◌, ◌++◌, AllPairs, if◌then◌else◌}
+use Rattle.ad_maps.specs.declared.shape.Opening.{Opening}
+use Rattle.ad_maps.specs.declared.shape.Shape.{Shape}
+use Rattle.ad_maps.specs.declared.view.Act.{Act}
+use Rattle.ad_maps.specs.declared.view.Act.TheVariants as act
+use Rattle.ad_maps.specs.declared.view.Deed.{Deed}
+use Rattle.ad_maps.specs.declared.view.Deed.TheVariants as deed
+use Rattle.ad_maps.specs.declared.view.Made.{Made}
+use Rattle.ad_maps.specs.Steps.{made}
+
+-- the first mappings of the modules from m on
+abbrev pub opened_from : ℕ → List Opening → List Made
+opened_from m [] = []
+opened_from m (o ∷ os) = made m o.place ∷ opened_from (m + 1) os
+
+-- the mappings that the mover made, in order
+abbrev pub maps_in : List Deed → List Made
+maps_in [] = []
+maps_in (deed.Look f o ∷ ds) = maps_in ds
+maps_in (deed.Map m p ∷ ds) = made m p ∷ maps_in ds
+maps_in (deed.Switch m p ∷ ds) = maps_in ds
+maps_in (deed.Retire n line ∷ ds) = maps_in ds
+maps_in (deed.Unmap n ∷ ds) = maps_in ds
+
+-- all mappings that were made: those of the opening, and the mover's
+abbrev pub all_made : Shape → List Deed → List Made
+all_made shape deeds = opened_from 0 shape.modules ++ maps_in deeds
+
+-- the line under which the mapping of a number was retired, or 0
+abbrev pub line_in : List Deed → ℕ → ℕ
+line_in [] n = 0
+line_in (deed.Look f o ∷ ds) n = line_in ds n
+line_in (deed.Map m p ∷ ds) n = line_in ds n
+line_in (deed.Switch m p ∷ ds) n = line_in ds n
+line_in (deed.Retire k line ∷ ds) n = if k == n then line else line_in ds n
+line_in (deed.Unmap k ∷ ds) n = line_in ds n
+
+-- the numbers of the mappings of module m that a seat read, in order
+abbrev pub reads_of : ℕ → List Act → List ℕ
+reads_of m [] = []
+reads_of m (act.Enter ∷ acts) = reads_of m acts
+reads_of m (act.Read n p ∷ acts) = if n == m then p.mapping ∷ reads_of m acts else reads_of m acts
+reads_of m (act.Page va ∷ acts) = reads_of m acts
+reads_of m (act.Cell e ∷ acts) = reads_of m acts
+reads_of m (act.Leave ∷ acts) = reads_of m acts
+reads_of m (act.Unmap n ∷ acts) = reads_of m acts
+
+-- the numbers never fall
+abbrev pub NeverFall : List ℕ → Type 0
+NeverFall ns = AllPairs (λ (x y : ℕ). x ≤ y) ns

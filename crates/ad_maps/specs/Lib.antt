@@ -1,0 +1,9 @@
+pub mod Names
+pub mod MapPlace
+pub mod Steps
+pub mod Ledger
+pub mod Rule
+pub mod Laws
+pub mod Seen
+pub mod Private
+pub mod Reading

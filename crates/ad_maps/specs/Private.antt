@@ -1,0 +1,4 @@
+-- Definitions that serve private functions alone.
+pub mod Handles
+pub mod Laid
+pub mod Tells

@@ -1,0 +1,126 @@
+-- What the seats of the handles know between two steps.
+use Rattle.std.specs.Prelude.{◌≡◌, ◌≢◌, ℕ, ◌+◌, ◌<◌, List, [], ◌∷◌, ◌++◌, length, All, Option, None, Some}
+use Rattle.atomic_table.specs.Seated.{TableId}
+use Rattle.ad_base.specs.declared.place.Place.{Place}
+use Rattle.ad_maps.specs.declared.words.TheConstants.{SLOTS, WORDS}
+use Rattle.ad_maps.specs.declared.view.Act.{Act}
+use Rattle.ad_maps.specs.declared.view.Stance.{Stance}
+use Rattle.ad_maps.specs.declared.view.Stance.TheVariants as stance
+use Rattle.ad_maps.specs.declared.view.Made.{Made}
+use Rattle.ad_maps.specs.declared.view.Stage.TheVariants as stage
+use Rattle.ad_maps.specs.declared.view.Plan.{Plan}
+use Rattle.ad_maps.specs.declared.view.Doing.{Doing}
+use Rattle.ad_maps.specs.declared.view.Doing.TheVariants.{Spent, Worker, Mover}
+use Rattle.ad_maps.specs.declared.view.Deed.TheVariants as deed
+use Rattle.ad_maps.specs.Seen.{looks_from}
+use Rattle.ad_maps.specs.Steps.{Sat, hand, made, without}
+
+-- the seat is of this table, which has the words of a mapping table
+pub record IsAt (table seat : TableId) : Type 0 where
+  pub same : seat ≡ table
+  pub words : table.words ≡ WORDS
+
+-- what a worker's view says that it did
+abbrev pub acts_of : Doing → List Act
+acts_of Spent = []
+acts_of (Worker w h) = h.acts
+acts_of (Mover q) = []
+
+abbrev pub gives_of : Doing → List Place
+gives_of Spent = []
+gives_of (Worker w h) = h.gives
+gives_of (Mover q) = []
+
+abbrev pub stance_of : Doing → Stance
+stance_of Spent = stance.Away
+stance_of (Worker w h) = h.stance
+stance_of (Mover q) = stance.Away
+
+-- the mapping that a worker is inside
+abbrev pub pinned_by : Stance → Option Made
+pinned_by stance.Away = None
+pinned_by (stance.Entered entry) = None
+pinned_by (stance.Inside entry m p) = Some (made m p)
+pinned_by (stance.Paying paid last) = None
+
+abbrev pub worker_of : Doing → ℕ
+worker_of Spent = 0
+worker_of (Worker w h) = w
+worker_of (Mover q) = 0
+
+-- the entry number of a stance, and the module that it is inside
+abbrev pub entry_in : Stance → ℕ
+entry_in stance.Away = 0
+entry_in (stance.Entered entry) = entry
+entry_in (stance.Inside entry m p) = entry
+entry_in (stance.Paying paid last) = paid
+
+abbrev pub module_in : Stance → ℕ
+module_in stance.Away = 0
+module_in (stance.Entered entry) = 0
+module_in (stance.Inside entry m p) = m
+module_in (stance.Paying paid last) = 0
+
+-- the seat is a worker's, which enters on this slot and is there
+pub record IsWorker (me : Sat) (slot : ℕ) (stance : Stance) : Type 0 where
+  pub few : slot < SLOTS
+  pub view : me ≡ (Worker (worker_of me.0) (hand slot stance (gives_of me.0) (acts_of me.0)), [])
+
+-- the seat has entered, and hasn't read
+abbrev pub IsEntered : Sat → ℕ → Type 0
+IsEntered me slot = IsWorker me slot (stance.Entered (entry_in (stance_of me.0)))
+
+-- the seat is inside the mapping of this place
+abbrev pub IsPinned : Sat → ℕ → Place → Type 0
+IsPinned me slot p = IsWorker me slot (stance.Inside (entry_in (stance_of me.0)) (module_in (stance_of me.0)) p)
+
+-- what the mover's view says
+abbrev pub plan_of : Doing → Plan
+plan_of Spent = record { stage = stage.Idle; slots = 0; dealt = 0; current = []; fresh = []; outs = []; rooms = []; gives = []; deeds = []; back = [] }
+plan_of (Worker w h) = record { stage = stage.Idle; slots = 0; dealt = 0; current = []; fresh = []; outs = []; rooms = []; gives = []; deeds = []; back = [] }
+plan_of (Mover q) = q
+
+-- the seat is the mover's
+abbrev pub IsMover : Sat → Type 0
+IsMover me = me ≡ (Mover (plan_of me.0), [])
+
+-- no new mapping is under way, and no worker's seat came back
+pub record IsIdle (me : Sat) : Type 0 where
+  pub mover : IsMover me
+  pub stage : (plan_of me.0).stage ≡ stage.Idle
+  pub back : (plan_of me.0).back ≡ []
+
+-- the plan once a frame is taken and so many of its cells are filled
+abbrev pub filled : Made → ℕ → Plan → Plan
+filled g k q = record q { stage = stage.Taken g k }
+
+-- the plan once a new mapping is made
+abbrev pub mapped_plan : Made → Plan → Plan
+mapped_plan g q = record q { stage = stage.Idle; rooms = without g.place.frame q.rooms; fresh = q.fresh ++ g ∷ []; deeds = q.deeds ++ deed.Map g.of_module g.place ∷ [] }
+
+-- the plan once the frames from the first one on were found to have these owners
+abbrev pub looked : ℕ → List ℕ → Plan → Plan
+looked first owners q = record q { deeds = q.deeds ++ looks_from first owners }
+
+-- so many frames from the first one on were looked at, each with an owner; the last one's is this
+pub record HaveOwners (first count last : ℕ) (before : Plan) (me : Sat) : Type 0 where
+  pub owners : List ℕ
+  pub length_is : length owners ≡ count
+  pub owned : All (λ (o : ℕ). o ≢ 0) owners
+  pub view : me ≡ (Mover (looked first owners before), [])
+  pub end : 0 < count → (earlier : List ℕ) × (owners ≡ earlier ++ last ∷ [])
+
+-- the frame has no owner, and each one before it has one
+pub record FindsFrame (first frames frame : ℕ) (before : Plan) (me : Sat) : Type 0 where
+  pub owners : List ℕ
+  pub owned : All (λ (o : ℕ). o ≢ 0) owners
+  pub frame_is : frame ≡ first + length owners
+  pub within : length owners < frames
+  pub view : me ≡ (Mover (record before { rooms = frame ∷ before.rooms; deeds = before.deeds ++ looks_from first (owners ++ 0 ∷ []) }), [])
+
+-- each frame has an owner, the last one this
+pub record FindsNone (first frames owner : ℕ) (before : Plan) (me : Sat) : Type 0 where
+  pub owners : List ℕ
+  pub owned : All (λ (o : ℕ). o ≢ 0) (owners ++ owner ∷ [])
+  pub all : length owners + 1 ≡ frames
+  pub view : me ≡ (Mover (looked first (owners ++ owner ∷ []) before), [])

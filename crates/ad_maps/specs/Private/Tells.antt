@@ -1,0 +1,59 @@
+-- What a step tells its seat.
+use Rattle.std.specs.Prelude.{◌≡◌, ◌≢◌, ℕ, ◌/◌, ◌≤◌, slice_index, [], Some}
+use Rattle.atomic_table.specs.Table.{Step}
+use Rattle.ad_base.specs.declared.layout.TheConstants.{REGION_BYTES, MAPPINGS}
+use Rattle.ad_base.specs.declared.place.Place.{Place}
+use Rattle.ad_base.specs.Place.{base_of, packed, IsPlace}
+use Rattle.ad_maps.specs.declared.shape.Shape.{Shape}
+use Rattle.ad_maps.specs.declared.view.Act.TheVariants as act
+use Rattle.ad_maps.specs.declared.view.Stance.TheVariants as stance
+use Rattle.ad_maps.specs.declared.view.Made.{Made}
+use Rattle.ad_maps.specs.Ledger.{reads_of, NeverFall}
+use Rattle.ad_maps.specs.MapPlace.{place_at, nowhere, cell_word, cells_of, IsPlaceOf}
+use Rattle.ad_maps.specs.Steps.{Sat, made, Becomes, after_read, after_act, after_leave, after_look, after_switch}
+use Rattle.ad_maps.specs.Private.Handles.{acts_of, stance_of, pinned_by, plan_of}
+
+-- the word is that of a place of module m
+pub record IsWordOf (shape : Shape) (m : ℕ) (word : ℕ) : Type 0 where
+  pub place : IsPlaceOf shape m (place_at word)
+  pub packs : word ≡ packed (place_at word)
+
+-- a read finds the word of a mapping of the module, and the numbers that the seat read of the module never fall
+pub record Reads (shape : Shape) (m : ℕ) (st : Step (Unit {0})) (me : Sat) (found : ℕ) (me' : Sat) : Type 0 where
+  pub becomes : Becomes (after_read m) st me found me'
+  pub word : IsWordOf shape m found
+  pub falls : NeverFall (reads_of m (acts_of me'.0))
+
+-- a load of the directory finds the pinned mapping's word in its region, and in any other no word with its number
+pub record Pages (va : ℕ) (st : Step (Unit {0})) (me : Sat) (found : ℕ) (me' : Sat) : Type 0 where
+  pub becomes : Becomes (after_act (act.Page va)) st me found me'
+  pub own : (g : Made) → pinned_by (stance_of me.0) ≡ Some g → va / REGION_BYTES ≡ g.place.region → found ≡ packed g.place
+  pub other : (g : Made) → pinned_by (stance_of me.0) ≡ Some g → va / REGION_BYTES ≢ g.place.region → (q : Place) → IsPlace q → found ≡ packed q → q.mapping ≢ g.place.mapping
+
+-- a load of an entry finds the word of the pinned mapping
+pub record Cells (shape : Shape) (e : ℕ) (st : Step (Unit {0})) (me : Sat) (found : ℕ) (me' : Sat) : Type 0 where
+  pub becomes : Becomes (after_act (act.Cell e)) st me found me'
+  pub word : (g : Made) → pinned_by (stance_of me.0) ≡ Some g → found ≡ cell_word (cells_of shape g.of_module) (base_of g.place) e
+
+-- who leaves owes nothing
+pub record Leaves (st : Step (Unit {0})) (me : Sat) (found : ℕ) (me' : Sat) : Type 0 where
+  pub becomes : Becomes after_leave st me found me'
+  pub away : stance_of me'.0 ≡ stance.Away
+
+-- a look finds 0 or the number of a mapping
+pub record Looks (f : ℕ) (st : Step (Unit {0})) (me : Sat) (found : ℕ) (me' : Sat) : Type 0 where
+  pub becomes : Becomes (after_look f) st me found me'
+  pub number : found ≤ MAPPINGS
+
+-- a switch finds the word of the mapping that was current
+pub record Switches (shape : Shape) (g : Made) (st : Step (Unit {0})) (me : Sat) (found : ℕ) (me' : Sat) : Type 0 where
+  pub becomes : Becomes (after_switch g) st me found me'
+  pub word : IsWordOf shape g.of_module found
+  pub number : (place_at found).mapping ≡ slice_index (plan_of me.0).current g.of_module
+
+-- notes that no step makes
+abbrev pub nothing_made : Made
+nothing_made = made 0 nowhere
+
+abbrev pub nothing_known : Shape
+nothing_known = record { slots = 0; frames = 0; workers = 0; modules = [] }

@@ -1,0 +1,248 @@
+-- The rule of the table: the words and the views stand for one state of the joined machine, reached from the opening.
+-- It has two halves. The mappings: current, directory, owner, cell, and what the mover's list tells. The owing: slot,
+-- count, member. Each part has the areas that it reads as parameters.
+use Rattle.std.specs.Prelude.{◌≡◌, ◌≢◌, ◌⊎◌, ℕ, ◌%◌, ◌<◌, ◌≤◌, List, [], length, slice_index, Contains, true, Option, Some, None}
+use Rattle.std.specs.Ordering.{nat_cmp}
+use Rattle.std.specs.FinMap as map
+use Rattle.std.specs.FinSet as set
+use mathlib.Core.Option.{some}
+use lib.ListN.{get_elem?}
+use Rattle.atomic_table.specs.Table.{State}
+use Rattle.ad_base.specs.declared.place.Place.{Place}
+use Rattle.ad_base.specs.Place.{base_of, packed}
+use Rattle.ad_events.specs.declared.mapping.Status.{Status}
+use Rattle.ad_events.specs.declared.mapping.Status.TheVariants.{Fresh, Current, Out, Retired, Gone}
+use Rattle.ad_events.specs.declared.mapping.Mapping.{Mapping}
+use Rattle.ad_events.specs.World.{EventWorld, mapping_of}
+use Rattle.ad_events.specs.Owed as owing
+use Rattle.ad_events.specs.Owed.{seat_at, count_of, last_batch, IsOpened}
+use Rattle.ad_events.specs.OwedLaws.{slot_word}
+use Rattle.ad_events.specs.Reclaim as machine
+use Rattle.ad_events.specs.Reclaim.{ReclaimState}
+use Rattle.ad_maps.specs.declared.shape.Shape.{Shape}
+use Rattle.ad_maps.specs.declared.words.TheConstants.{CELLS, MEMBERS}
+use Rattle.ad_maps.specs.declared.view.Act.TheVariants as act
+use Rattle.ad_maps.specs.declared.view.Stance.{Stance}
+use Rattle.ad_maps.specs.declared.view.Stance.TheVariants as stance
+use Rattle.ad_maps.specs.declared.view.Hand.{Hand}
+use Rattle.ad_maps.specs.declared.view.Made.{Made}
+use Rattle.ad_maps.specs.declared.view.Stage.{Stage}
+use Rattle.ad_maps.specs.declared.view.Stage.TheVariants as stage
+use Rattle.ad_maps.specs.declared.view.Plan.{Plan}
+use Rattle.ad_maps.specs.declared.view.Doing.{Doing}
+use Rattle.ad_maps.specs.declared.view.Doing.TheVariants.{Spent, Worker, Mover}
+use Rattle.ad_maps.specs.Names.{Words, AreWords}
+use Rattle.ad_maps.specs.MapPlace.{directory_word, member_word, cell_word, cells_of, module_of_frame, numbers, IsPlaceOf, IsShape}
+use Rattle.ad_maps.specs.Ledger.{all_made, line_in, reads_of, NeverFall}
+use Rattle.ad_maps.specs.Steps.{made, new_hand}
+
+-- words and views; the table has no slots of values
+abbrev pub St : Type 0
+St = State (Unit {0}) Doing
+
+-- ---- the state of the joined machine
+
+-- the state was reached from the opening, by steps that might be made where they stood
+pub record Reached (shape : Shape) (j : ReclaimState) : Type 0 where
+  pub past : List machine.Step
+  pub may : machine.MayRun (machine.reclaim_opening shape.slots shape.workers (numbers shape)) past
+  pub is : j ≡ machine.reclaim_run (machine.reclaim_opening shape.slots shape.workers (numbers shape)) past
+
+-- ---- the mappings
+-- the mappings of a world, by number
+abbrev pub AllMappings : Type 0
+AllMappings = map.FinMap nat_cmp Mapping
+
+-- the world has the mapping, of this module and with this status, and this is its place
+pub record IsAs (ms : AllMappings) (places : ℕ → Place) (g : Made) (s : Status) : Type 0 where
+  pub there : map.get ms g.place.mapping ≡ Some (mapping_of g.of_module s)
+  pub placed : places g.place.mapping ≡ g.place
+
+-- a mapping is in the directory, owns its frame, and has its own cells there
+pub record IsMapped (shape : Shape) (directory owner : ℕ → ℕ) (cell : ℕ → ℕ → ℕ) (m : ℕ) (p : Place) : Type 0 where
+  pub word : directory p.region ≡ packed p
+  pub owns : owner p.frame ≡ p.mapping
+  pub cells : (e : ℕ) → e < CELLS → cell p.frame e ≡ cell_word (cells_of shape m) (base_of p) e
+
+-- what the words say of a mapping, by its status
+abbrev pub WordsSay : Shape → (ℕ → ℕ) → (ℕ → ℕ) → (ℕ → ℕ → ℕ) → ℕ → Place → Status → Type 0
+WordsSay shape directory owner cell m p Fresh = IsMapped shape directory owner cell m p
+WordsSay shape directory owner cell m p Current = IsMapped shape directory owner cell m p
+WordsSay shape directory owner cell m p Out = IsMapped shape directory owner cell m p
+WordsSay shape directory owner cell m p Retired = IsMapped shape directory owner cell m p
+WordsSay shape directory owner cell m p Gone = directory p.region ≡ directory_word p 1
+
+-- a mapping of the world has a place of its module, was made there, and has its words
+pub record MappingStands (shape : Shape) (ledger : List Made) (directory owner : ℕ → ℕ) (cell : ℕ → ℕ → ℕ) (p : Place) (n : ℕ) (x : Mapping) : Type 0 where
+  pub number : p.mapping ≡ n
+  pub form : IsPlaceOf shape x.module p
+  pub listed : Contains ledger (made x.module p)
+  pub words : WordsSay shape directory owner cell x.module p x.status
+
+-- the current mapping of module m, and its word
+pub record CurrentStands (ms : AllMappings) (places : ℕ → Place) (currents : List ℕ) (current : ℕ → ℕ) (m : ℕ) : Type 0 where
+  pub there : map.get ms (slice_index currents m) ≡ Some (mapping_of m Current)
+  pub word : current m ≡ packed (places (slice_index currents m))
+
+-- the directory's word of a region in which there is no mapping is 0
+abbrev pub RegionStands : AllMappings → (ℕ → Place) → (ℕ → ℕ) → ℕ → Type 0
+RegionStands ms places directory r = directory r ≢ 0 → (n : ℕ) × (x : Mapping) × (map.get ms n ≡ Some x) × ((places n).region ≡ r)
+
+-- a seat unmapped the mapping of this place, and hasn't given its frame back
+abbrev pub IsToGive : (ℕ → List Place) → List Place → Place → Type 0
+IsToGive gives movers p = ((w : ℕ) × Contains (gives w) p) ⊎ Contains movers p
+
+-- the frame is taken for a mapping of this number, which isn't in the directory yet
+abbrev pub IsTaken : Stage → ℕ → ℕ → Type 0
+IsTaken stage.Idle f n = ⊥
+IsTaken (stage.Taken g filled) f n = (g.place.frame ≡ f) × (g.place.mapping ≡ n)
+
+-- A frame has no owner, or is owned by a mapping that isn't Gone, or by one whose give is still to come, or is taken
+abbrev pub OwnerStands : AllMappings → (ℕ → Place) → (Place → Type 0) → Stage → ℕ → ℕ → Type 0
+OwnerStands ms places to_give stage f n =
+    (n ≡ 0)
+    ⊎ (((x : Mapping) × (map.get ms n ≡ Some x) × (x.status ≢ Gone) × ((places n).frame ≡ f))
+    ⊎ (((p : Place) × to_give p × (p.frame ≡ f) × (p.mapping ≡ n))
+    ⊎ IsTaken stage f n))
+
+-- a mapping whose give is to come is Gone, and owns its frame still
+pub record GiveStands (ms : AllMappings) (places : ℕ → Place) (owner : ℕ → ℕ) (p : Place) : Type 0 where
+  pub «module» : ℕ
+  pub gone : IsAs ms places (made «module» p) Gone
+  pub owns : owner p.frame ≡ p.mapping
+
+-- a new mapping whose frame is taken, and some of whose cells are filled
+pub record IsFilled (shape : Shape) (ledger : List Made) (owner : ℕ → ℕ) (cell : ℕ → ℕ → ℕ) (g : Made) (filled : ℕ) : Type 0 where
+  pub form : IsPlaceOf shape g.of_module g.place
+  pub above : (x : Made) → Contains ledger x → x.place.mapping < g.place.mapping
+  pub region : (x : Made) → Contains ledger x → x.place.region ≢ g.place.region
+  pub owns : owner g.place.frame ≡ g.place.mapping
+  pub within : filled ≤ length (cells_of shape g.of_module)
+  pub cells : (e : ℕ) → e < filled → cell g.place.frame e ≡ cell_word (cells_of shape g.of_module) (base_of g.place) e
+
+-- how far a new mapping is
+abbrev pub StageStands : Shape → List Made → (ℕ → ℕ) → (ℕ → ℕ → ℕ) → Stage → Type 0
+StageStands shape ledger owner cell stage.Idle = Unit {0}
+StageStands shape ledger owner cell (stage.Taken g filled) = IsFilled shape ledger owner cell g filled
+
+-- the mappings of this list are all that have this status
+pub record AreAll (ms : AllMappings) (places : ℕ → Place) (gs : List Made) (s : Status) : Type 0 where
+  pub each : (g : Made) → Contains gs g → IsAs ms places g s
+  pub only : (n m : ℕ) → map.get ms n ≡ Some (mapping_of m s) → Contains gs (made m (places n))
+
+-- the first half of the rule
+pub record Mappings (shape : Shape) (ms : AllMappings) (places : ℕ → Place) (ledger : List Made) (plan : Plan) (gives : ℕ → List Place) (current directory owner : ℕ → ℕ) (cell : ℕ → ℕ → ℕ) : Type 0 where
+  pub each : (n : ℕ) (x : Mapping) → map.get ms n ≡ Some x → MappingStands shape ledger directory owner cell (places n) n x
+  pub each_made : (g : Made) → Contains ledger g → (s : Status) × IsAs ms places g s
+  pub wide : length plan.current ≡ length shape.modules
+  pub each_current : (m : ℕ) → m < length shape.modules → CurrentStands ms places plan.current current m
+  pub each_region : (r : ℕ) → RegionStands ms places directory r
+  pub each_owner : (f : ℕ) → OwnerStands ms places (IsToGive gives plan.gives) plan.stage f (owner f)
+  pub each_give : (p : Place) → IsToGive gives plan.gives p → GiveStands ms places owner p
+  pub past_cells : (f e : ℕ) → length (cells_of shape (module_of_frame shape f)) ≤ e → cell f e ≡ 0
+  pub fresh : AreAll ms places plan.fresh Fresh
+  pub outs : AreAll ms places plan.outs Out
+  pub rooms : (f : ℕ) → Contains plan.rooms f → owner f ≡ 0
+  pub stage : StageStands shape ledger owner cell plan.stage
+
+-- ---- what is owed
+
+-- the seat of a worker in the machine of what is owed
+abbrev pub seat_of : ℕ → Stance → owing.Seat
+seat_of slot stance.Away = owing.Away
+seat_of slot (stance.Entered entry) = owing.Inside slot entry
+seat_of slot (stance.Inside entry m p) = owing.Inside slot entry
+seat_of slot (stance.Paying paid last) = owing.Paying slot paid last
+
+-- a member's word is that of this mapping
+abbrev pub IsMember : (ℕ → ℕ → ℕ) → (ℕ → ℕ) → (ℕ → Place) → ℕ → ℕ → ℕ → Type 0
+IsMember member lines places b k n = member b k ≡ member_word (lines n) (places n).region
+
+-- The second half of the rule. The line of a row stands behind `lines`.
+pub record Owing (shape : Shape) (owed : owing.State) (batch : ℕ → Option ℕ) (places : ℕ → Place) (lines : ℕ → ℕ) (slot count : ℕ → ℕ) (member : ℕ → ℕ → ℕ) : Type 0 where
+  pub slots : length owed.slots ≡ shape.slots
+  pub seats : length owed.seats ≡ shape.workers
+  pub each_slot : (s : ℕ) → s < shape.slots → slot s ≡ slot_word owed s
+  pub each_count : (b : ℕ) → IsOpened owed b → count b ≡ count_of owed b
+  pub no_count : (b : ℕ) → last_batch owed < b → count b ≡ 0
+  pub each_listed : (n b : ℕ) → batch n ≡ Some b → (k : ℕ) × (k < MEMBERS) × IsMember member lines places b k n
+  pub each_member : (b k : ℕ) → member b k ≢ 0 → (n : ℕ) × (batch n ≡ Some b) × IsMember member lines places b k n
+
+-- No step of the table opens a batch or lists a mapping yet. This is the one part of the rule that goes once there is such a step.
+pub record NoBatch (j : ReclaimState) : Type 0 where
+  pub unopened : last_batch j.owed ≡ 0
+  pub unlisted : (n : ℕ) → j.batch n ≡ None
+
+-- ---- the views
+
+-- where a worker is in the world
+abbrev pub StanceStands : EventWorld → (ℕ → Place) → ℕ → Stance → Type 0
+StanceStands world places w stance.Away = Unit {0}
+StanceStands world places w (stance.Entered entry) = set.contains world.entered w ≡ true
+StanceStands world places w (stance.Inside entry m p) = (map.get world.inside w ≡ Some p.mapping) × ((s : Status) × IsAs world.mappings places (made m p) s)
+StanceStands world places w (stance.Paying paid last) = Unit {0}
+
+-- a place that a seat read is that of a mapping which was made, and whose number is at most the current one's
+pub record ReadStands (ledger : List Made) (currents : List ℕ) (m : ℕ) (p : Place) : Type 0 where
+  pub listed : Contains ledger (made m p)
+  pub past : p.mapping ≤ slice_index currents m
+
+-- what a worker's seat knows is so
+pub record HandStands (shape : Shape) (world : EventWorld) (places : ℕ → Place) (ledger : List Made) (currents : List ℕ) (gives : ℕ → List Place) (w : ℕ) (h : Hand) : Type 0 where
+  pub slot : h.slot ≡ w % shape.slots
+  pub to_give : h.gives ≡ gives w
+  pub stance : StanceStands world places w h.stance
+  pub reads : (m : ℕ) (p : Place) → Contains h.acts (act.Read m p) → ReadStands ledger currents m p
+  pub falls : (m : ℕ) → NeverFall (reads_of m h.acts)
+
+-- which seats were split off, and which were joined again, away
+pub record Dealt (shape : Shape) (hands : ℕ → Hand) (plan : Plan) : Type 0 where
+  pub slots : plan.slots ≡ shape.slots
+  pub few : plan.dealt ≤ shape.workers
+  pub undealt : (w : ℕ) → plan.dealt ≤ w → hands w ≡ new_hand (w % shape.slots)
+  pub back : (w : ℕ) → w < length plan.back → ((hands w).stance ≡ stance.Away) × (get_elem? plan.back w ≡ some (hands w))
+
+-- what the seat of this index knows
+module _ (hands : ℕ → Hand) (owner : ℕ → ℕ) (plan : Plan) (mover : ℕ) (seat : ℕ) where
+  abbrev pub Knows : Doing → Type 0
+  Knows Spent = Unit {0}
+  Knows (Worker w h) = (w < plan.dealt) × (length plan.back ≤ w) × (owner w ≡ seat) × (h ≡ hands w)
+  Knows (Mover q) = (q ≡ plan) × (seat ≡ mover)
+
+-- each worker whose seat was split off and not joined again has its seat, and the mover has its own
+pub record Seated (hands : ℕ → Hand) (owner : ℕ → ℕ) (plan : Plan) (mover : ℕ) (views : List Doing) : Type 0 where
+  pub worker : (w : ℕ) → length plan.back ≤ w → w < plan.dealt → get_elem? views (owner w) ≡ some (Worker w (hands w))
+  pub own : get_elem? views mover ≡ some (Mover plan)
+
+-- ---- the rule
+
+-- The words and the views of a table that was opened with this shape. A worker's number has one seat at most, its
+-- seater, and one seat is the mover's.
+pub record Kept (shape : Shape) (s : St) : Type 0 where
+  pub words : Words
+  pub state : ReclaimState
+  pub places : ℕ → Place
+  pub ledger : List Made
+  pub lines : ℕ → ℕ
+  pub gives : ℕ → List Place
+  pub hands : ℕ → Hand
+  pub seater : ℕ → ℕ
+  pub plan : Plan
+  pub mover : ℕ
+  pub form : IsShape shape
+  pub reads : AreWords s.words words
+  pub reached : Reached shape state
+  pub mappings : Mappings shape state.world.mappings places ledger plan gives words.current words.directory words.owner words.cell
+  pub owing : Owing shape state.owed state.batch places lines words.slot words.count words.member
+  pub no_batch : NoBatch state
+  pub ledger_is : ledger ≡ all_made shape plan.deeds
+  pub lines_are : (n : ℕ) → lines n ≡ line_in plan.deeds n
+  pub each_stance : (w : ℕ) → seat_at state.owed w ≡ seat_of (w % shape.slots) (hands w).stance
+  pub each_hand : (w : ℕ) → HandStands shape state.world places ledger plan.current gives w (hands w)
+  pub each_seat : (i : ℕ) (view : Doing) → get_elem? s.views i ≡ some view → Knows hands seater plan mover i view
+  pub seated : Seated hands seater plan mover s.views
+  pub dealt : Dealt shape hands plan
+
+-- the view of the first seat, the mover's
+abbrev pub starting : Shape → Doing
+starting shape = Mover (record { stage = stage.Idle; slots = shape.slots; dealt = 0; current = numbers shape; fresh = []; outs = []; rooms = []; gives = []; deeds = []; back = [] })

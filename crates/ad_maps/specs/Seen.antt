@@ -1,0 +1,78 @@
+-- What contracts see of the table and of its handles.
+use Rattle.std.specs.Prelude.{◌≡◌, ◌≢◌, ℕ, ◌+◌, ◌<◌, List, [], ◌∷◌, ◌++◌, length, slice_get, All, Some}
+use Rattle.atomic_table.specs.Seated.{TableId}
+use Rattle.ad_base.specs.declared.place.Place.{Place}
+use Rattle.ad_maps.specs.declared.shape.Shape.{Shape}
+use Rattle.ad_maps.specs.declared.view.Act.{Act}
+use Rattle.ad_maps.specs.declared.view.Deed.{Deed}
+use Rattle.ad_maps.specs.declared.view.Deed.TheVariants as deed
+use Rattle.ad_maps.specs.declared.view.Made.{Made}
+use Rattle.ad_maps.specs.MapPlace.{numbers}
+
+-- a table, and what it was opened with
+pub record OpenMaps : Type 0 where
+  pub table : TableId
+  pub shape : Shape
+
+-- a worker's seat that is away: its table, its worker's number, and what it did, in order
+pub record SeatSeen : Type 0 where
+  pub table : TableId
+  pub worker : ℕ
+  pub acts : List Act
+
+-- a worker that is inside a mapping: its seat, the module, and the place that it read
+pub record InsideSeen : Type 0 where
+  pub seat : SeatSeen
+  pub of_module : ℕ
+  pub place : Place
+
+-- The mover's seat: its table, the number of the current mapping of each module, the mappings that were made and aren't
+-- current yet, those that were current and aren't retired yet, frames that it found without owner and hasn't taken since,
+-- and what it did, in order
+pub record MoverSeen : Type 0 where
+  pub table : TableId
+  pub current : List ℕ
+  pub fresh : List Made
+  pub outs : List Made
+  pub rooms : List ℕ
+  pub deeds : List Deed
+
+-- a frame of a module, which had no owner when the mover looked at it
+pub record RoomSeen : Type 0 where
+  pub of_module : ℕ
+  pub frame : ℕ
+
+-- the seat of a worker that did nothing yet
+abbrev pub new_seat : TableId → ℕ → SeatSeen
+new_seat table w = record { table = table; worker = w; acts = [] }
+
+-- one seat for each of n workers, in order, which did nothing yet
+pub record AreNew (table : TableId) (n : ℕ) (seats : List SeatSeen) : Type 0 where
+  pub count : length seats ≡ n
+  pub each : (w : ℕ) → w < n → slice_get seats w ≡ Some (new_seat table w)
+
+-- the mover's seat as a table is opened
+abbrev pub new_mover : TableId → Shape → MoverSeen
+new_mover table shape = record { table = table; current = numbers shape; fresh = []; outs = []; rooms = []; deeds = [] }
+
+-- the mover's looks at frames in order of number, from this one on, where it found these owners
+abbrev pub looks_from : ℕ → List ℕ → List Deed
+looks_from f [] = []
+looks_from f (o ∷ os) = deed.Look f o ∷ looks_from (f + 1) os
+
+-- The looks for a room: each frame from the first one on had an owner, up to one that had none
+pub record FoundRoom (first frames : ℕ) (before after : MoverSeen) (room : RoomSeen) : Type 0 where
+  pub owners : List ℕ
+  pub owned : All (λ (o : ℕ). o ≢ 0) owners
+  pub frame : room.frame ≡ first + length owners
+  pub within : length owners < frames
+  pub looks : after.deeds ≡ before.deeds ++ looks_from first (owners ++ 0 ∷ [])
+  pub rooms : after.rooms ≡ room.frame ∷ before.rooms
+
+-- each frame had an owner, the last one this
+pub record FoundNone (first frames : ℕ) (before after : MoverSeen) (owner : ℕ) : Type 0 where
+  pub owners : List ℕ
+  pub owned : All (λ (o : ℕ). o ≢ 0) (owners ++ owner ∷ [])
+  pub all : length owners + 1 ≡ frames
+  pub looks : after.deeds ≡ before.deeds ++ looks_from first (owners ++ owner ∷ [])
+  pub rooms : after.rooms ≡ before.rooms

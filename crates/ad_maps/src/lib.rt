@@ -1,0 +1,22 @@
+//! The mappings of the modules, on a table of atomic words that threads share.
+#![tactic(auto)]
+
+mod laws;
+mod maps;
+mod moves;
+mod open;
+mod shape;
+mod steps;
+mod table;
+#[cfg(test)]
+mod tests;
+mod view;
+mod words;
+
+pub use laws::{
+    law_enter, law_leave, law_map, law_other, law_own_pages, law_read, law_reading, law_switch,
+};
+pub use maps::{Busy, Inside, Mapped, Maps, MoverSeat, Out, Room, Seat};
+pub use shape::{Opening, Shape};
+pub use view::{Act, Deed, Doing, Hand, Made, Plan, Stage, Stance};
+pub use words::{MEMBERS, MODULE_FRAMES, NUMBERS, SLOTS};

@@ -1,0 +1,198 @@
+//! The steps of the table, one function each.
+
+ghost use Rattle.std.specs.Prelude.{◌≡◌, ◌≢◌, ◌+◌, ◌/◌, ◌^◌, ◌<◌, ◌≤◌, [], ◌∷◌, ◌++◌, length, slice_index, Contains};
+ghost use Rattle.ad_base.specs.declared.layout.TheConstants.{MAPPINGS, REGION_BYTES, REGIONS};
+ghost use Rattle.ad_base.specs.declared.place.Place.{Place};
+ghost use Rattle.ad_base.specs.Place.{base_of, packed, IsPlace};
+ghost use Rattle.ad_maps.specs.declared.view.Act.TheVariants as act;
+ghost use Rattle.ad_maps.specs.declared.view.Stance.TheVariants as stance;
+ghost use Rattle.ad_maps.specs.declared.view.Stage.TheVariants as stage;
+ghost use Rattle.ad_maps.specs.declared.view.Doing.TheVariants.{Mover};
+ghost use Rattle.ad_maps.specs.Laws.{MayMap};
+ghost use Rattle.ad_maps.specs.Ledger.{reads_of, NeverFall};
+ghost use Rattle.ad_maps.specs.MapPlace.{place_at, cell_word, cells_of};
+ghost use Rattle.ad_maps.specs.Steps.{filling, looking, mapping, switching, taking};
+ghost use Rattle.ad_maps.specs.Private.Handles.{acts_of, module_in, plan_of, stance_of, worker_of, IsAt, IsEntered, IsMover, IsPinned, IsWorker};
+ghost use Rattle.ad_maps.specs.Private.Tells.{IsWordOf};
+
+use crate::table::{
+    Enter, Entry, Fill, Leave, Look, Map, MapTable, Noted, Page, Read, Switch, TableSeat, Take,
+};
+use crate::view::Made;
+use crate::words::{CELL_BASE, CELLS, CURRENT_BASE, DIRECTORY_BASE, FRAME_WORDS, OWNER_BASE};
+use ad_base::{Place, REGION_BYTES};
+
+/// Adds one to the slot's word, and answers what it was.
+pub(crate) fn enter(table: &MapTable, seat: &mut TableSeat, slot: u64) -> u64
+    requires at { IsAt table.now.shared.table_id seat.old.table_id }
+    requires away { IsWorker seat.old.me slot stance.Away }
+    ensures at { seat.new.table_id ≡ seat.old.table_id }
+    ensures entered { IsEntered seat.new.me slot }
+    ensures worker { worker_of seat.new.me.0 ≡ worker_of seat.old.me.0 }
+    ensures acts { acts_of seat.new.me.0 ≡ acts_of seat.old.me.0 ++ act.Enter ∷ [] }
+{
+    table.shared.fetch_add::<Enter>(seat, slot as usize, 1)
+}
+
+/// Loads the word of the module's current mapping.
+pub(crate) fn read<N: Noted>(table: &MapTable, seat: &mut TableSeat, slot: u64, module: u64) -> u64
+    requires noted { (N.shape ≡ table.now.shared.key) × (N.number ≡ «module») }
+    requires at { IsAt table.now.shared.table_id seat.old.table_id }
+    requires entered { IsEntered seat.old.me slot }
+    requires modules { length table.now.shared.key.modules ≤ 8 }
+    requires in_range { «module» < length table.now.shared.key.modules }
+    ensures at { seat.new.table_id ≡ seat.old.table_id }
+    ensures pinned { IsPinned seat.new.me slot (place_at result) }
+    ensures of_module { module_in (stance_of seat.new.me.0) ≡ «module» }
+    ensures worker { worker_of seat.new.me.0 ≡ worker_of seat.old.me.0 }
+    ensures acts { acts_of seat.new.me.0 ≡ acts_of seat.old.me.0 ++ act.Read «module» (place_at result) ∷ [] }
+    ensures word { IsWordOf table.now.shared.key «module» result }
+    ensures falls { NeverFall (reads_of «module» (acts_of seat.new.me.0)) }
+{
+    table
+        .shared
+        .load::<Read<N>>(seat, CURRENT_BASE + module as usize)
+}
+
+/// Loads the directory's word of the address's region.
+pub(crate) fn page<N: Noted>(
+    table: &MapTable,
+    seat: &mut TableSeat,
+    slot: u64,
+    place: &Place,
+    va: u64,
+) -> u64
+    requires noted { N.number ≡ va }
+    requires at { IsAt table.now.shared.table_id seat.old.table_id }
+    requires pinned { IsPinned seat.old.me slot place.now }
+    requires in_use { va / REGION_BYTES < REGIONS }
+    ensures at { seat.new.table_id ≡ seat.old.table_id }
+    ensures pinned { IsPinned seat.new.me slot place.now }
+    ensures of_module { module_in (stance_of seat.new.me.0) ≡ module_in (stance_of seat.old.me.0) }
+    ensures worker { worker_of seat.new.me.0 ≡ worker_of seat.old.me.0 }
+    ensures acts { acts_of seat.new.me.0 ≡ acts_of seat.old.me.0 ++ act.Page va ∷ [] }
+    ensures own { va / REGION_BYTES ≡ place.now.region → result ≡ packed place.now }
+    ensures other { va / REGION_BYTES ≢ place.now.region → (q : Place) → IsPlace q → result ≡ packed q → q.mapping ≢ place.now.mapping }
+{
+    let region = va / REGION_BYTES;
+    table
+        .shared
+        .load::<Page<N>>(seat, DIRECTORY_BASE + region as usize)
+}
+
+/// Loads an entry of the local area of the mapping that the seat is inside.
+pub(crate) fn entry<N: Noted>(
+    table: &MapTable,
+    seat: &mut TableSeat,
+    slot: u64,
+    place: &Place,
+    entry: u64,
+) -> u64
+    requires noted { (N.shape ≡ table.now.shared.key) × (N.number ≡ entry) }
+    requires at { IsAt table.now.shared.table_id seat.old.table_id }
+    requires pinned { IsPinned seat.old.me slot place.now }
+    requires frame { place.now.frame < FRAME_WORDS }
+    requires in_range { entry < CELLS }
+    ensures at { seat.new.table_id ≡ seat.old.table_id }
+    ensures pinned { IsPinned seat.new.me slot place.now }
+    ensures of_module { module_in (stance_of seat.new.me.0) ≡ module_in (stance_of seat.old.me.0) }
+    ensures worker { worker_of seat.new.me.0 ≡ worker_of seat.old.me.0 }
+    ensures acts { acts_of seat.new.me.0 ≡ acts_of seat.old.me.0 ++ act.Cell entry ∷ [] }
+    ensures word { result ≡ cell_word (cells_of table.now.shared.key (module_in (stance_of seat.old.me.0))) (base_of place.now) entry }
+{
+    let cell = CELLS * usize::from(place.frame) + entry as usize;
+    table.shared.load::<Entry<N>>(seat, CELL_BASE + cell)
+}
+
+/// Takes one from the slot's word.
+pub(crate) fn leave(table: &MapTable, seat: &mut TableSeat, slot: u64, place: &Place)
+    requires at { IsAt table.now.shared.table_id seat.old.table_id }
+    requires pinned { IsPinned seat.old.me slot place.now }
+    ensures at { seat.new.table_id ≡ seat.old.table_id }
+    ensures away { IsWorker seat.new.me slot stance.Away }
+    ensures worker { worker_of seat.new.me.0 ≡ worker_of seat.old.me.0 }
+    ensures acts { acts_of seat.new.me.0 ≡ acts_of seat.old.me.0 ++ act.Leave ∷ [] }
+{
+    table.shared.fetch_sub::<Leave>(seat, slot as usize, 1);
+}
+
+/// Loads the owner of a frame.
+pub(crate) fn look<N: Noted>(table: &MapTable, seat: &mut TableSeat, frame: u64) -> u64
+    requires noted { N.number ≡ frame }
+    requires at { IsAt table.now.shared.table_id seat.old.table_id }
+    requires mover { IsMover seat.old.me }
+    requires frame { frame < FRAME_WORDS }
+    ensures at { seat.new.table_id ≡ seat.old.table_id }
+    ensures view { seat.new.me ≡ (Mover (looking frame (plan_of seat.old.me.0) result), []) }
+    ensures number { result ≤ MAPPINGS }
+{
+    table
+        .shared
+        .load::<Look<N>>(seat, OWNER_BASE + frame as usize)
+}
+
+/// Takes the frame of a new mapping.
+pub(crate) fn take<N: Noted>(table: &MapTable, seat: &mut TableSeat, made: Made)
+    requires noted { N.made ≡ made }
+    requires at { IsAt table.now.shared.table_id seat.old.table_id }
+    requires mover { IsMover seat.old.me }
+    requires idle { (plan_of seat.old.me.0).stage ≡ stage.Idle }
+    requires may { MayMap table.now.shared.key (plan_of seat.old.me.0) made }
+    requires frame { made.place.frame < FRAME_WORDS }
+    ensures at { seat.new.table_id ≡ seat.old.table_id }
+    ensures view { seat.new.me ≡ (Mover (taking made (plan_of seat.old.me.0)), []) }
+{
+    let frame = OWNER_BASE + usize::from(made.place.frame);
+    table
+        .shared
+        .store::<Take<N>>(seat, frame, u64::from(made.place.mapping));
+}
+
+/// Fills the next cell of the frame that was taken, with this word.
+pub(crate) fn fill(table: &MapTable, seat: &mut TableSeat, made: Made, entry: u64, word: u64)
+    requires at { IsAt table.now.shared.table_id seat.old.table_id }
+    requires mover { IsMover seat.old.me }
+    requires taken { (plan_of seat.old.me.0).stage ≡ stage.Taken made entry }
+    requires frame { made.place.frame < FRAME_WORDS }
+    requires in_range { entry < CELLS }
+    requires within { entry < length (cells_of table.now.shared.key made.of_module) }
+    requires word { word ≡ cell_word (cells_of table.now.shared.key made.of_module) (base_of made.place) entry }
+    ensures at { seat.new.table_id ≡ seat.old.table_id }
+    ensures view { seat.new.me ≡ (Mover (record (plan_of seat.old.me.0) { stage = filling (plan_of seat.old.me.0).stage }), []) }
+{
+    let cell = CELLS * usize::from(made.place.frame) + entry as usize;
+    table.shared.store::<Fill>(seat, CELL_BASE + cell, word);
+}
+
+/// Puts the new mapping into the directory.
+pub(crate) fn map(table: &MapTable, seat: &mut TableSeat, made: Made)
+    requires at { IsAt table.now.shared.table_id seat.old.table_id }
+    requires mover { IsMover seat.old.me }
+    requires filled { (plan_of seat.old.me.0).stage ≡ stage.Taken made (length (cells_of table.now.shared.key made.of_module)) }
+    requires place { IsPlace made.place }
+    ensures at { seat.new.table_id ≡ seat.old.table_id }
+    ensures view { seat.new.me ≡ (Mover (mapping (plan_of seat.old.me.0) (plan_of seat.old.me.0).stage), []) }
+{
+    let word = made.place.pack();
+    let region = DIRECTORY_BASE + usize::from(made.place.region);
+    table.shared.store::<Map>(seat, region, word);
+}
+
+/// Swaps the word of the module's current mapping with the new one's, and answers what it was.
+pub(crate) fn switch<N: Noted>(table: &MapTable, seat: &mut TableSeat, made: Made) -> u64
+    requires noted { (N.shape ≡ table.now.shared.key) × (N.made ≡ made) }
+    requires at { IsAt table.now.shared.table_id seat.old.table_id }
+    requires mover { IsMover seat.old.me }
+    requires fresh { Contains (plan_of seat.old.me.0).fresh made }
+    requires above { slice_index (plan_of seat.old.me.0).current made.of_module < made.place.mapping }
+    requires in_range { made.of_module < 8 }
+    requires place { IsPlace made.place }
+    ensures at { seat.new.table_id ≡ seat.old.table_id }
+    ensures view { seat.new.me ≡ (Mover (switching made (plan_of seat.old.me.0) result), []) }
+    ensures word { IsWordOf table.now.shared.key made.of_module result }
+    ensures number { (place_at result).mapping ≡ slice_index (plan_of seat.old.me.0).current made.of_module }
+{
+    let word = made.place.pack();
+    let current = CURRENT_BASE + made.of_module as usize;
+    table.shared.swap::<Switch<N>>(seat, current, word)
+}

@@ -1,0 +1,3 @@
+pub mod Laid
+pub mod Arranged
+pub mod Next

@@ -1,0 +1,4 @@
+pub mod Area
+pub mod Ends
+pub mod Layout
+pub mod Parts

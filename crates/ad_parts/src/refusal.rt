@@ -1,0 +1,26 @@
+//! Why an object has no layout.
+
+ghost use Rattle.std.specs.Prelude.{◌≡◌};
+ghost use Rattle.ad_parts.specs.declared.refusal.PartRefusal.TheVariants.{OutOfMemory as MemoryWanted};
+
+use ad_base::OutOfMemory;
+
+/// Why an object has no layout, in the order in which it is looked at. The number of a refusal is its
+/// place in this list, counted from 1.
+#[derive(Clone, Copy, Debug, PartialEq, Eq)]
+pub enum PartRefusal {
+    /// The section of this number has an alignment that is no power of two up to 4,096.
+    Alignment(u64),
+    /// A part has so many pages, which is more than a part may have.
+    TooManyPages(u64),
+    /// There was no memory for the layout.
+    OutOfMemory,
+}
+
+impl From<OutOfMemory> for PartRefusal {
+    ghost from_gives = { λ _ r. r ≡ MemoryWanted };
+
+    fn from(_error: OutOfMemory) -> PartRefusal {
+        PartRefusal::OutOfMemory
+    }
+}
