@@ -11,7 +11,7 @@ use Rattle.ad_command.specs.declared.trouble.Trouble.TheVariants.{Memory, NoExpo
 use Rattle.ad_command.specs.declared.words.Command as read
 use Rattle.ad_command.specs.declared.words.Command.TheVariants as variants
 use Rattle.ad_command.specs.Chain.{Chain, Done, Serves, ◌>>=◌, given, judged}
-use Rattle.ad_command.specs.Command.{Job, Lines, Work, command, job_of, work_of}
+use Rattle.ad_command.specs.Command.{Job, Lines, Work, command, job_in, job_of, work_of}
 use Rattle.ad_command.specs.Ending.{Ending, IsDone}
 use Rattle.ad_command.specs.Loading.{loaded_images, module_of, script_of}
 use Rattle.ad_command.specs.Words.{Command, command_of}
@@ -37,38 +37,38 @@ module _ (operand : List ℕ) (seed fuel : ℕ) where
 
   module _ (old : Outside) where
     -- the script is refused
-    pub job-unread : (new : Outside) (t : Trouble) → Serves old new (script_of operand) (Err t) → Serves old new (job_of operand seed fuel) (Err t)
-    unfolding job_of
+    pub job-unread : (new : Outside) (t : Trouble) → Serves old new (script_of operand) (Err t) → Serves old new (job_in operand seed fuel) (Err t)
+    unfolding job_in job_of
     job-unread new t first = serves-refused old new (script_of operand) (λ script. loaded_images module_of seed script >>= then_of script) t first
 
     module _ (mid : Outside) (script : Script) (first : Serves old mid (script_of operand) (Ok script)) where
       -- a module is refused
-      pub job-unloaded : (new : Outside) (t : Trouble) → Serves mid new (loaded_images module_of seed script) (Err t) → Serves old new (job_of operand seed fuel) (Err t)
-      unfolding job_of
+      pub job-unloaded : (new : Outside) (t : Trouble) → Serves mid new (loaded_images module_of seed script) (Err t) → Serves old new (job_in operand seed fuel) (Err t)
+      unfolding job_in job_of
       job-unloaded new t second =
           serves-behind old mid new (script_of operand) (λ s. loaded_images module_of seed s >>= then_of s) script (Err t) first
           (serves-refused mid new (loaded_images module_of seed script) (then_of script) t second)
 
       -- modules and script are there
       module _ (new : Outside) (images : List Image) (second : Serves mid new (loaded_images module_of seed script) (Ok images)) where
-        job-goes : (r : Result Job Trouble) → Serves new new (then_of script images) r → Serves old new (job_of operand seed fuel) r
-        unfolding job_of
+        job-goes : (r : Result Job Trouble) → Serves new new (then_of script images) r → Serves old new (job_in operand seed fuel) r
+        unfolding job_in job_of
         job-goes r third =
             serves-behind old mid new (script_of operand) (λ s. loaded_images module_of seed s >>= then_of s) script r first
             (serves-behind mid new new (loaded_images module_of seed script) (then_of script) images r second third)
 
-        pub job-ready : (steps : List ReadyStep) → ready_steps images script.steps ≡ Ok steps → Serves old new (job_of operand seed fuel) (Ok (job script images steps))
+        pub job-ready : (steps : List ReadyStep) → ready_steps images script.steps ≡ Ok steps → Serves old new (job_in operand seed fuel) (Ok (job script images steps))
         job-ready steps e = job-goes (Ok (job script images steps)) (serves-ready new script images steps e)
 
-        pub job-missing : (t : Trouble) → ((line : ℕ) × (ready_steps images script.steps ≡ Err line) × (t ≡ NoExport line)) ⊎ (t ≡ Memory) → Serves old new (job_of operand seed fuel) (Err t)
-        job-missing t (inl why) = subst (λ u. Serves old new (job_of operand seed fuel) (Err u)) (sym why.2) (job-goes (Err (NoExport why.0)) (serves-missing new script images why.0 why.1))
-        job-missing t (inr e) = subst (λ u. Serves old new (job_of operand seed fuel) (Err u)) (sym e) (job-goes (Err Memory) (serves-memory new (then_of script images)))
+        pub job-missing : (t : Trouble) → ((line : ℕ) × (ready_steps images script.steps ≡ Err line) × (t ≡ NoExport line)) ⊎ (t ≡ Memory) → Serves old new (job_in operand seed fuel) (Err t)
+        job-missing t (inl why) = subst (λ u. Serves old new (job_in operand seed fuel) (Err u)) (sym why.2) (job-goes (Err (NoExport why.0)) (serves-missing new script images why.0 why.1))
+        job-missing t (inr e) = subst (λ u. Serves old new (job_in operand seed fuel) (Err u)) (sym e) (job-goes (Err Memory) (serves-memory new (then_of script images)))
 
         -- the job that was done, or the reason why none was
         pub job-ran : {P : Type 0} (outcome : P → Ending) (r : Result P Trouble) (at : ℕ) → at ≡ seed
             → IfOk r (λ p. (steps : List ReadyStep) × (ready_steps images script.steps ≡ Ok steps) × IsDone (Lines (record { seed = at; fuel = fuel; script = script; images = images; steps = steps })) (outcome p))
             → IfErr r (λ t. ((line : ℕ) × (ready_steps images script.steps ≡ Err line) × (t ≡ NoExport line)) ⊎ (t ≡ Memory))
-            → (end : Result Job Trouble) × Serves old new (job_of operand seed fuel) end × MatchResult r (λ p. (j : Job) × (end ≡ Ok j) × IsDone (Lines j) (outcome p)) (λ t. end ≡ Err t)
+            → (end : Result Job Trouble) × Serves old new (job_in operand seed fuel) end × MatchResult r (λ p. (j : Job) × (end ≡ Ok j) × IsDone (Lines j) (outcome p)) (λ t. end ≡ Err t)
         job-ran outcome (Ok p) at same done fault =
             let j = job script images done.0 in
             let is : IsDone (Lines j) (outcome p) = subst (λ n. IsDone (Lines (record { seed = n; fuel = fuel; script = script; images = images; steps = done.0 })) (outcome p)) same done.2 in
@@ -97,12 +97,12 @@ command-some old new words c r e s = subst (λ x. Serves old new (given Usage x 
 
 -- the lines of a job are work that was done, or isn't done for the same reason
 pub lines-ran : {P : Type 0} (outcome : P → Ending) (old new : Outside) (operand : List ℕ) (seed fuel : ℕ) (r : Result P Trouble) (end : Result Job Trouble)
-    → Serves old new (job_of operand seed fuel) end → MatchResult r (λ p. (j : Job) × (end ≡ Ok j) × IsDone (Lines j) (outcome p)) (λ t. end ≡ Err t)
-    → (last : Result Work Trouble) × Serves old new (job_of operand seed fuel >>= λ j. Done (Lines j)) last
+    → Serves old new (job_in operand seed fuel) end → MatchResult r (λ p. (j : Job) × (end ≡ Ok j) × IsDone (Lines j) (outcome p)) (λ t. end ≡ Err t)
+    → (last : Result Work Trouble) × Serves old new (job_in operand seed fuel >>= λ j. Done (Lines j)) last
     × MatchResult r (λ p. (work : Work) × (last ≡ Ok work) × IsDone work (outcome p)) (λ t. last ≡ Err t)
 lines-ran outcome old new operand seed fuel (Ok p) end serves is =
-    let at : Serves old new (job_of operand seed fuel) (Ok is.0) = subst (Serves old new (job_of operand seed fuel)) is.1 serves in
-    (Ok (Lines is.0), serves-behind old new new (job_of operand seed fuel) (λ j. Done (Lines j)) is.0 (Ok (Lines is.0)) at (serves-done new (Lines is.0)), (Lines is.0, refl, is.2))
+    let at : Serves old new (job_in operand seed fuel) (Ok is.0) = subst (Serves old new (job_in operand seed fuel)) is.1 serves in
+    (Ok (Lines is.0), serves-behind old new new (job_in operand seed fuel) (λ j. Done (Lines j)) is.0 (Ok (Lines is.0)) at (serves-done new (Lines is.0)), (Lines is.0, refl, is.2))
 lines-ran outcome old new operand seed fuel (Err t) end serves is =
-    let at : Serves old new (job_of operand seed fuel) (Err t) = subst (Serves old new (job_of operand seed fuel)) is serves in
-    (Err t, serves-refused old new (job_of operand seed fuel) (λ j. Done (Lines j)) t at, refl)
+    let at : Serves old new (job_in operand seed fuel) (Err t) = subst (Serves old new (job_in operand seed fuel)) is serves in
+    (Err t, serves-refused old new (job_in operand seed fuel) (λ j. Done (Lines j)) t at, refl)

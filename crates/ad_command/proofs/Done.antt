@@ -74,12 +74,12 @@ module _ (j : Job) (o : Ending) (loaded : AreLoaded j.seed j.script.workers j.im
             of-worker (step_of number) (is_by worker) b.entries ∙ ap (filter (is_by worker)) same;
         moves = ap (map move_request) run.moved ∙ moves-made j.seed j.script.workers j.fuel j.images j.steps loaded are;
         places =
-            let rows = ap (map (λ (r : Row). unframed r.place)) run.mapped in
+            let rows = ap (map (λ (r : Row). unframed r.place)) run.rows_are in
             rows ∙ sym (map-map unframed (λ (r : Row). r.place) (run_of_job j).placement.rows)
             ∙ ap (map unframed) ((sound-run j.seed j.script.workers j.fuel j.images loaded j.steps are).sound.places ∙ places-are j.seed j.script.workers j.fuel j.images j.steps loaded are ∙ ap (chosen_places j) (sym run.moved));
         clear = zipped (λ i b. RepliesAsReplayed i j.fuel b.entries) ms j.images o.books stay run.ran (clear-replies j.seed j.script.workers j.fuel j.images j.steps loaded are);
-        ledger = subst (λ rs. IsLedger (first ++ made_mappings o.moves) rs) (sym run.mapped) (subst (λ xs. IsLedger (first ++ made_mappings xs) (run_of_job j).placement.rows) (sym run.moved) all);
-        unmapped = All-same IsUnmappedOnce o.rows (run_of_job j).placement.rows run.mapped (unmapped-once j.seed j.script.workers j.fuel j.images j.steps loaded are);
+        ledger = subst (λ rs. IsLedger (first ++ made_mappings o.moves) rs) (sym run.rows_are) (subst (λ xs. IsLedger (first ++ made_mappings xs) (run_of_job j).placement.rows) (sym run.moved) all);
+        unmapped = All-same IsUnmappedOnce o.rows (run_of_job j).placement.rows run.rows_are (unmapped-once j.seed j.script.workers j.fuel j.images j.steps loaded are);
       }
 
   -- the moves come in order of their lines
@@ -106,7 +106,7 @@ is-run j o range loaded each viewed taken ready ran moved mapped =
     let line : IsLineRun j o = record {
       ran = ran ∙ ap (λ steps. map (λ (m : ModuleState). m.book) (run steps).modules) taken;
       moved = moved ∙ ap (λ steps. (run steps).placement.moves) taken;
-      mapped = mapped ∙ ap (λ steps. (run steps).placement.rows) taken;
+      rows_are = mapped ∙ ap (λ steps. (run steps).placement.rows) taken;
     } in
     record {
       line = line;

@@ -4,18 +4,13 @@ use Rattle.std.specs.Prelude.{nat_lt, if◌then◌else◌}
 use Rattle.std.proofs.lemmas.Bool.{le-ltb}
 use Rattle.ad_base.specs.declared.image.Image.{Image}
 use Rattle.ad_base.specs.declared.layout.TheConstants.{FILE_BYTES}
-use Rattle.ad_base.specs.declared.ledger.Kind.TheVariants.{Fixed}
-use Rattle.ad_form.specs.declared.image.TheConstants.{FIXED_PAGES}
 use Rattle.ad_form.specs.declared.read.Module.{Module}
-use Rattle.ad_form.specs.FormImage.{form_image}
-use Rattle.ad_lines.specs.Opening.{opening_drawn}
-use Rattle.ad_place.specs.Choice.{next_place}
 use Rattle.ad_script.specs.declared.script.Load.{Load}
 use Rattle.ad_script.specs.declared.script.Script.{Script}
 use Rattle.ad_command.specs.declared.trouble.Trouble.{Trouble}
 use Rattle.ad_command.specs.declared.trouble.Trouble.TheVariants.{Form, TooLarge}
 use Rattle.ad_command.specs.Chain.{Chain, Done, Gives, IsWrong, Judge, ModuleFile, Refuse, Verdict, ◌>>=◌, each_in_turn, judged}
-use Rattle.ad_command.specs.Loading.{file_of, loaded_image, loaded_images, module_of, placed_image}
+use Rattle.ad_command.specs.Loading.{file_of, image_behind, loaded_image, loaded_images, module_of}
 use Rattle.ad_command.proofs.Chains.{one_verdict}
 
 module _ {A B : Type 0} (files : List ℕ → List ℕ) (name : List ℕ) (made : Module → Chain A) (next : A → Chain B) where
@@ -37,9 +32,9 @@ module _ {A B : Type 0} (files : List ℕ → List ℕ) (name : List ℕ) (made 
 pub first-refusal : (files : List ℕ → List ℕ) (seed : ℕ) (s : Script) (first : Load) (more : List Load) (names : List (List ℕ)) (due : Result (List Image) Trouble)
     → s.loads ≡ first ∷ more → length (files first.file) ≤ FILE_BYTES → IsWrong (ModuleFile (files first.file)) tt
     → Gives files (loaded_images module_of seed s) names due → (due ≡ Err (Form first.file)) × (names ≡ first.file ∷ [])
-unfolding loaded_images each_in_turn loaded_image placed_image module_of file_of
+unfolding loaded_images each_in_turn loaded_image module_of file_of
 first-refusal files seed s first more names due loads short formless gives =
-    let made : Module → Chain Image = λ m. Done (form_image m (next_place (opening_drawn seed s.workers []) Fixed FIXED_PAGES)) in
+    let made : Module → Chain Image = λ m. Done (image_behind seed s.workers [] m) in
     let next : Image → Chain (List Image) = λ i. each_in_turn (loaded_image module_of seed s.workers) (i ∷ []) more in
     let goes : Gives files (each_in_turn (loaded_image module_of seed s.workers) [] (first ∷ more)) names due =
     subst (λ ls. Gives files (each_in_turn (loaded_image module_of seed s.workers) [] ls) names due) loads gives in

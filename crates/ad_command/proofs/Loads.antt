@@ -31,7 +31,7 @@ use Rattle.ad_script.specs.Script.{IsScript}
 use Rattle.ad_command.specs.declared.trouble.Trouble.{Trouble}
 use Rattle.ad_command.specs.declared.trouble.Trouble.TheVariants.{BadScript, Form, Memory, Read, TooLarge}
 use Rattle.ad_command.specs.Chain.{Chain, Done, Found, IsFound, IsWrong, Judge, MayEnd, ModuleFile, Question, Refuse, ScriptText, Serves, Wrong, each_in_turn, judged}
-use Rattle.ad_command.specs.Loading.{file_of, loaded_image, loaded_images, module_of, placed_image, script_of}
+use Rattle.ad_command.specs.Loading.{file_of, image_behind, loaded_image, loaded_images, module_of, script_of}
 use Rattle.ad_command.proofs.Chains.{memory, serves-behind, serves-done, serves-memory, serves-judge, serves-refuse, serves-refused}
 
 -- a file that may be so long and isn't too long, and one that is
@@ -138,19 +138,19 @@ module-whole file (Err t) is = tt
 -- the image of a module
 module _ (seed workers : ℕ) (before : List Image) (l : Load) (old new : Outside) where
   pub image-refused : (t : Trouble) → Serves old new (module_of l.file) (Err t) → Serves old new (loaded_image module_of seed workers before l) (Err t)
-  unfolding loaded_image placed_image
-  image-refused t first = serves-refused old new (module_of l.file) (placed_image seed workers before) t first
+  unfolding loaded_image
+  image-refused t first = serves-refused old new (module_of l.file) (λ m. Done (image_behind seed workers before m)) t first
 
   pub image-made : (m : Module) (i : Image) → Serves old new (module_of l.file) (Ok m)
       → i ≡ form_image m (next_place (opening_drawn seed workers before) Fixed FIXED_PAGES) → Serves old new (loaded_image module_of seed workers before l) (Ok i)
-  unfolding loaded_image placed_image
+  unfolding loaded_image
   image-made m i first same =
       let image : Image = form_image m (next_place (opening_drawn seed workers before) Fixed FIXED_PAGES) in
-      rw same (serves-behind old new new (module_of l.file) (placed_image seed workers before) m (Ok image) first (serves-done new image))
+      rw same (serves-behind old new new (module_of l.file) (λ m. Done (image_behind seed workers before m)) m (Ok image) first (serves-done new image))
 
   pub image-wanting : (m : Module) → Serves old new (module_of l.file) (Ok m) → Serves old new (loaded_image module_of seed workers before l) (Err Memory)
-  unfolding loaded_image placed_image
-  image-wanting m first = serves-behind old new new (module_of l.file) (placed_image seed workers before) m (Err Memory) first (serves-memory new (placed_image seed workers before m))
+  unfolding loaded_image
+  image-wanting m first = serves-behind old new new (module_of l.file) (λ m. Done (image_behind seed workers before m)) m (Err Memory) first (serves-memory new (Done (image_behind seed workers before m)))
 
 -- A chain of a step for each of a list, as far as it has come: what is left of it serves it all.
 pub record GoesOn {A B : Type 0} (f : List B → A → Chain B) (start now : Outside) (done : List B) (left all : List A) : Type 0 where

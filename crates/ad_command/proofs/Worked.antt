@@ -5,7 +5,7 @@ use Rattle.ad_script.specs.declared.script.Script.{Script}
 use Rattle.ad_script.specs.Script.{IsScript}
 use Rattle.ad_command.specs.declared.trouble.Trouble.TheVariants.{BadScript, Usage}
 use Rattle.ad_command.specs.Chain.{Gives}
-use Rattle.ad_command.specs.Command.{command, job_of}
+use Rattle.ad_command.specs.Command.{command, job_in}
 use Rattle.ad_command.specs.Loading.{file_of, script_of}
 
 -- a script has a line that loads a module
@@ -21,5 +21,5 @@ unfolding command
 an-option files = (refl, refl)
 
 pub an-empty-script : (files : List ℕ → List ℕ) → files (codes "s") ≡ [] → Gives files (command (codes "seq" ∷ codes "s" ∷ [])) (codes "s" ∷ []) (Err BadScript)
-unfolding command job_of script_of file_of
+unfolding command job_in script_of file_of
 an-empty-script files e = ([], refl, rw e (Err tt, empty-is-no-script, (refl, refl)))

@@ -106,8 +106,3 @@ Gives files (Judge q next) names r = (v : Verdict q) × IsVerdict q v × Gives f
 abbrev pub AreTold : Told → (List ℕ → List ℕ) → List (List ℕ) → Type 0
 AreTold told files [] = Unit {0}
 AreTold told files (name ∷ names) = (told name ≡ Some (files name)) × AreTold told files names
-
--- what came of a call, its value seen so
-abbrev pub seen : {A B : Type 0} → (A → B) → Result A Trouble → Result B Trouble
-seen view (Ok a) = Ok (view a)
-seen view (Err t) = Err t

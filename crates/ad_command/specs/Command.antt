@@ -1,6 +1,7 @@
 -- The chain of a command.
 use Rattle.std.specs.Prelude.{ℕ, List}
 use Rattle.ad_base.specs.declared.image.Image.{Image}
+use Rattle.ad_form.specs.declared.read.Module.{Module}
 use Rattle.ad_lines.specs.declared.ready.ReadyStep.{ReadyStep}
 use Rattle.ad_lines.specs.Ready.{ready_steps}
 use Rattle.ad_script.specs.declared.script.Script.{Script}
@@ -23,17 +24,23 @@ pub record Job : Type 0 where
 pub data Work : Type 0 where
   Lines : Job → Work
 
--- a script that is run from a seed: it is read, its modules are loaded, and each call finds its export
-unfoldable pub job_of : List ℕ → ℕ → ℕ → Chain Job
-job_of operand seed fuel = do
-  script ← script_of operand
+-- the job of a script, where the module in the file of a name is had so: its modules are loaded, and each call finds its
+-- export
+unfoldable pub job_of : (List ℕ → Chain Module) → Script → ℕ → ℕ → Chain Job
+job_of module_of script seed fuel = do
   images ← loaded_images module_of seed script
   steps ← judged NoExport (ready_steps images script.steps)
   Done (record { seed = seed; fuel = fuel; script = script; images = images; steps = steps })
 
+-- the job of the script in a file, whose modules are in files
+unfoldable pub job_in : List ℕ → ℕ → ℕ → Chain Job
+job_in name seed fuel = do
+  script ← script_of name
+  job_of module_of script seed fuel
+
 -- the work of a command
 abbrev pub work_of : Command → Chain Work
-work_of (Seq script seed fuel) = job_of script seed fuel >>= λ j. Done (Lines j)
+work_of (Seq script seed fuel) = job_in script seed fuel >>= λ j. Done (Lines j)
 
 -- the whole chain
 unfoldable pub command : List (List ℕ) → Chain Work

@@ -25,8 +25,8 @@ use Rattle.ad_command.specs.declared.trouble.Trouble.{Trouble}
 use Rattle.ad_command.specs.declared.trouble.Trouble.TheVariants.{Memory, Read, Write}
 use Rattle.ad_command.specs.Command.{Job, Lines, Work}
 
--- what work comes to: what the books of the modules hold, what came of the moves, all mappings, and the text that is to be
--- written
+-- what work comes to: what the books of the modules hold, what came of the moves, a row for each mapping, and the
+-- text that is to be written
 pub record Ending : Type 0 where
   pub books : List Contents
   pub moves : List Moved
@@ -37,11 +37,11 @@ pub record Ending : Type 0 where
 abbrev pub run_of_job : Job → RunState
 run_of_job j = run_of_seed j.seed j.script.workers j.images j.fuel j.steps
 
--- Books, moves and mappings are those of the line run.
+-- Books, moves and rows are those of the line run.
 pub record IsLineRun (j : Job) (e : Ending) : Type 0 where
   pub ran : e.books ≡ map (λ (m : ModuleState). m.book) (run_of_job j).modules
   pub moved : e.moves ≡ (run_of_job j).placement.moves
-  pub mapped : e.rows ≡ (run_of_job j).placement.rows
+  pub rows_are : e.rows ≡ (run_of_job j).placement.rows
 
 -- the mappings before the first line of a job
 abbrev pub opening_of_job : Job → List Mapping
@@ -73,7 +73,7 @@ pub record IsSoundRun (opening : List Mapping) (j : Job) (e : Ending) : Type 0 w
   pub clear : AllZip (λ (i : Image) (b : Contents). RepliesAsReplayed i j.fuel b.entries) j.images e.books
   -- the moves are those that the steps ask for, in order
   pub moves : map move_request e.moves ≡ flat_map move_requests j.steps
-  -- each mapping lies at the next place that the seed chooses
+  -- each mapping lies at the next place that the seed chooses, but for the number of its frames
   pub places : map (λ (r : Row). unframed r.place) e.rows ≡ map unframed (chosen_places j e.moves)
   -- the rows are the ledger of the opening and of what the moves made
   pub ledger : IsLedger (opening ++ made_mappings e.moves) e.rows

@@ -4,3 +4,4 @@ pub mod Chain
 pub mod Loading
 pub mod Command
 pub mod Ending
+pub mod Private

@@ -1,5 +1,5 @@
 -- Loading a module, and all modules of a script.
-use Rattle.std.specs.Prelude.{ℕ, List, [], length, nat_lt, if◌then◌else◌}
+use Rattle.std.specs.Prelude.{ℕ, List, [], ◌∷◌, ◌++◌, length, nat_lt, if◌then◌else◌}
 use Rattle.ad_base.specs.declared.image.Image.{Image}
 use Rattle.ad_base.specs.declared.layout.TheConstants.{FILE_BYTES}
 use Rattle.ad_base.specs.declared.ledger.Kind.TheVariants.{Fixed}
@@ -28,15 +28,20 @@ module_of name = do
   file ← file_of name
   Judge (ModuleFile file) (judged (λ wrong. Form name))
 
--- the image of a module that is loaded behind these, where its immovable part lies at the next place that the seed draws
-unfoldable pub placed_image : ℕ → ℕ → List Image → Module → Chain Image
-placed_image seed workers before m = Done (form_image m (next_place (opening_drawn seed workers before) Fixed (immovable_pages m)))
+-- the image of a module behind these: its immovable part lies at the next place that the seed draws
+abbrev pub image_behind : ℕ → ℕ → List Image → Module → Image
+image_behind seed workers before m = form_image m (next_place (opening_drawn seed workers before) Fixed (immovable_pages m))
+
+-- the images of modules in order, behind these
+abbrev pub images_behind : ℕ → ℕ → List Image → List Module → List Image
+images_behind seed workers before [] = before
+images_behind seed workers before (m ∷ ms) = images_behind seed workers (before ++ image_behind seed workers before m ∷ []) ms
 
 -- the image of a load behind these
 unfoldable pub loaded_image : (List ℕ → Chain Module) → ℕ → ℕ → List Image → Load → Chain Image
 loaded_image module_of seed workers before l = do
   m ← module_of l.file
-  placed_image seed workers before m
+  Done (image_behind seed workers before m)
 
 -- the images of a script's modules, in order, where the module in the file of a name is had so
 unfoldable pub loaded_images : (List ℕ → Chain Module) → ℕ → Script → Chain (List Image)

@@ -1,17 +1,11 @@
 -- The command words.
 use Rattle.std.specs.Prelude.{ℕ, ◌&&◌, ◌==◌, Bool, false, not, bytes_eq, codes, List, [], ◌∷◌, Option, None, Some, if◌then◌else◌}
-use Rattle.ad_command.specs.declared.words.Command as read
-use Rattle.ad_command.specs.declared.words.Command.TheVariants as variants
 use Rattle.ad_command.specs.declared.words.TheConstants.{FUEL, SEED}
 
 -- A command, by what is done:
 --     Seq script seed fuel      the lines of a script are run one after another, with places from a seed and so many steps of each call at most
 pub data Command : Type 0 where
   Seq : List ℕ → ℕ → ℕ → Command
-
--- the command that was read, with its operand as bytes
-abbrev pub command_seen : read.Command → Command
-command_seen (variants.Seq script seed fuel) = Seq script.now seed fuel
 
 -- a word that begins with `-`
 abbrev pub is_option : List ℕ → Bool

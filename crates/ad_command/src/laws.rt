@@ -1,26 +1,23 @@
 //! Laws of the command.
 
-ghost use Rattle.std.specs.Prelude.{◌≡◌, ◌≤◌, ℕ, List, [], ◌∷◌, length, codes, false, Result, Ok, Err};
+ghost use Rattle.std.specs.Prelude.{◌≡◌, ◌≤◌, ℕ, List, [], ◌∷◌, length, map, codes, false, Result, Ok, Err};
+ghost use Rattle.std.specs.List.{AllZip};
 ghost use Rattle.ad_base.specs.declared.image.Image.{Image};
 ghost use Rattle.ad_form.specs.declared.read.Module.{Module};
-ghost use Rattle.ad_form.specs.FormImage.{form_image};
 ghost use Rattle.ad_form.specs.Object.{IsModule};
 ghost use Rattle.ad_lines.specs.declared.ready.ReadyStep.{ReadyStep};
-ghost use Rattle.ad_lines.specs.Opening.{opening_drawn};
 ghost use Rattle.ad_lines.specs.Ready.{ready_steps};
-ghost use Rattle.ad_place.specs.Choice.{next_place};
 ghost use Rattle.ad_script.specs.declared.script.Load.{Load};
 ghost use Rattle.ad_script.specs.declared.script.Script.{Script};
 ghost use Rattle.ad_script.specs.Script.{IsScript};
 ghost use Rattle.ad_command.specs.Chain.{Gives, IsWrong, ModuleFile};
 ghost use Rattle.ad_command.specs.Command.{Lines, Work, command};
-ghost use Rattle.ad_command.specs.Loading.{loaded_images, module_of};
+ghost use Rattle.ad_command.specs.Loading.{images_behind, loaded_images, module_of};
 ghost use Rattle.ad_command.specs.Words.{is_option};
 
 use crate::trouble::Trouble;
 use crate::words::{FUEL, SEED};
-use ad_base::{FILE_BYTES, Kind};
-use ad_form::FIXED_PAGES;
+use ad_base::FILE_BYTES;
 
 /// Where the first file that a script loads isn't too long and is no module, the refusal tells its name, and no other
 /// file is asked for. This holds whatever the files behind it are, and so too where a second one is no module either.
@@ -47,15 +44,14 @@ pub fn law_one_answer()
         → (names ≡ more) × (due ≡ other) }
 {}
 
-/// The chain of right words is done, where the script's file and the file of the one module that it loads aren't too
-/// long and have their forms, and each call finds its export. It asks for these two files, and its work is to run the
-/// script's lines on that module, whose immovable part lies at the place that the seed draws behind the stacks.
+/// The chain of right words is done, where the script's file and the files of the modules that it loads aren't too long
+/// and have their forms, and each call finds its export. It asks for these files, in order, and its work is to run the
+/// script's lines on those modules, at the places that the seed draws.
 pub fn law_right_commands_are_done()
-    ensures { (files : List ℕ → List ℕ) (operand : List ℕ) (s : Script) (l : Load) (m : Module) (i : Image) (steps : List ReadyStep)
-        → is_option operand ≡ false → length (files operand) ≤ FILE_BYTES → IsScript (files operand) s → s.loads ≡ l ∷ []
-        → length (files l.file) ≤ FILE_BYTES → IsModule (files l.file) m
-        → i ≡ form_image m (next_place (opening_drawn SEED s.workers []) Kind.Fixed FIXED_PAGES)
-        → ready_steps (i ∷ []) s.steps ≡ Ok steps
-        → Gives files (command (codes "seq" ∷ operand ∷ [])) (operand ∷ l.file ∷ [])
-        (Ok (Lines (record { seed = SEED; fuel = FUEL; script = s; images = i ∷ []; steps = steps }))) }
+    ensures { (files : List ℕ → List ℕ) (operand : List ℕ) (s : Script) (ms : List Module) (steps : List ReadyStep)
+        → is_option operand ≡ false → length (files operand) ≤ FILE_BYTES → IsScript (files operand) s
+        → AllZip (λ (l : Load) (m : Module). (length (files l.file) ≤ FILE_BYTES) × IsModule (files l.file) m) s.loads ms
+        → ready_steps (images_behind SEED s.workers [] ms) s.steps ≡ Ok steps
+        → Gives files (command (codes "seq" ∷ operand ∷ [])) (operand ∷ map (λ l. l.file) s.loads)
+        (Ok (Lines (record { seed = SEED; fuel = FUEL; script = s; images = images_behind SEED s.workers [] ms; steps = steps }))) }
 {}

@@ -7,7 +7,8 @@ ghost use Rattle.ad_form.specs.Object.{IsModule, IsText};
 ghost use Rattle.ad_lines.specs.Opening.{opening_drawn, AreLoaded};
 ghost use Rattle.ad_script.specs.declared.script.Script.{Script};
 ghost use Rattle.ad_script.specs.Script.{IsFileName, IsInRange, IsScript};
-ghost use Rattle.ad_command.specs.Chain.{Serves, seen};
+ghost use Rattle.ad_command.specs.Chain.{Serves};
+ghost use Rattle.ad_command.specs.Private.Seen.{seen};
 ghost use Rattle.ad_command.specs.Loading.{file_of, loaded_image, loaded_images, module_of, script_of};
 
 use crate::trouble::Trouble;

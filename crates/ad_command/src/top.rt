@@ -3,7 +3,7 @@
 ghost use Rattle.std.specs.Prelude.{◌≡◌, ◌≢◌, ◌⊎◌, ℕ, List, [], length, map, string_bytes, Some, Result, Ok, Err, IfOk, IfErr, MatchResult};
 ghost use Rattle.ad_base.specs.Book.{contents_of};
 ghost use Rattle.ad_command.specs.Chain.{AreTold, Gives, Serves};
-ghost use Rattle.ad_command.specs.Command.{Job, Lines, Work, command, job_of};
+ghost use Rattle.ad_command.specs.Command.{Job, Lines, Work, command, job_in};
 ghost use Rattle.ad_command.specs.Ending.{Answers, AsksFirstOf, IsDone, Leaves, Writes, fault_of};
 ghost use Rattle.ad_lines.specs.declared.ready.ReadyStep.{ReadyStep};
 ghost use Rattle.ad_lines.specs.LineLaws.{run_of_seed};
@@ -141,16 +141,16 @@ fn seq<F: Files>(
     seed: u64,
     fuel: u64,
 ) -> Result<Prepared, Trouble>
-    ensures { (end : Result Job Trouble) × Serves (F.outside files.old) (F.outside files.new) (job_of script.now seed fuel) end
+    ensures { (end : Result Job Trouble) × Serves (F.outside files.old) (F.outside files.new) (job_in script.now seed fuel) end
         × MatchResult result (λ p. (job : Job) × (end ≡ Ok job) × IsDone (Lines job) (record { books = map contents_of p.books.items; moves = p.moves.items; rows = p.ledger.items; text = p.text.items })) (λ t. end ≡ Err t) }
 {
     let script = script_of(alloc, files, script)?;
     let loaded = load_images(alloc, files, &script, seed)?;
-    run(alloc, &script, loaded, fuel)
+    run_job(alloc, &script, loaded, fuel)
 }
 
 /// Runs the lines of a script, if each call finds its export, and makes the report.
-fn run(alloc: Global, script: &Script, loaded: Loaded, fuel: u64) -> Result<Prepared, Trouble>
+fn run_job(alloc: Global, script: &Script, loaded: Loaded, fuel: u64) -> Result<Prepared, Trouble>
     requires range { IsInRange script.now }
     requires drawn { loaded.placer ≡ opening_drawn loaded.placer.seed script.now.workers loaded.images.items }
     requires loaded { AreLoaded loaded.placer.seed script.now.workers loaded.images.items }

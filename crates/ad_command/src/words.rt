@@ -1,7 +1,8 @@
 //! The command words.
 
 ghost use Rattle.std.specs.Prelude.{◌≡◌, map, option_map, string_bytes};
-ghost use Rattle.ad_command.specs.Words.{command_of, command_seen, is_option};
+ghost use Rattle.ad_command.specs.Private.Seen.{command_seen};
+ghost use Rattle.ad_command.specs.Words.{command_of, is_option};
 
 /// The seed of the choice of places, where the words say none.
 pub const SEED: u64 = 0;

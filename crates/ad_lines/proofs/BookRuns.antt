@@ -257,7 +257,7 @@ module _ (images : List Image) (workers fuel : ℕ) (s : RunState) where
       → All (IsRunnable images workers) (before ++ Call line worker number export args ∷ after) → AreThere images workers s → history_at s number ≡ []
       → slice_get (line_run fuel s before).modules number ≡ Some earlier → slice_get (line_run fuel s before).stacks worker ≡ Some stack
       → slice_get (line_run fuel s (before ++ Call line worker number export args ∷ after)).modules number ≡ Some now
-      → IsSomeAnd (slice_get now.book.entries (length (calls_of_module number before))) (IsEntryOf number (Call line worker number export args) earlier.movable stack)
+      → (entry : Entry) × (later : List Entry) × (now.book.entries ≡ earlier.book.entries ++ entry ∷ later) × IsEntryOf number (Call line worker number export args) earlier.movable stack entry
   unfolding after_step
   entry-of-call before after line worker number export args earlier now stack runs h none was on is =
       let step = Call line worker number export args in
@@ -276,7 +276,4 @@ module _ (images : List Image) (workers fuel : ℕ) (s : RunState) where
       ∙ g.are
       ∙ ap (λ es. es ++ g.more) (history-called fuel t line worker number export args earlier stack was)
       ∙ append_assoc earlier.book.entries (e ∷ []) g.more in
-      let long : length earlier.book.entries ≡ length (calls_of_module number before) = sym (length-map earlier.book.entries (step_of number)) ∙ ap length (entries-of-run before number earlier first h none was) in
-      let found : slice_get now.book.entries (length (calls_of_module number before)) ≡ Some e = (λ j. slice_get (all j) (sym long j)) ∙ read-seam earlier.book.entries e g.more in
-      subst (λ o. IsSomeAnd o (IsEntryOf number (Call line worker number export args) earlier.movable stack)) (sym found)
-      (made-is fuel t line worker number export args earlier stack was)
+      (e, g.more, all, made-is fuel t line worker number export args earlier stack was)

@@ -1,6 +1,7 @@
 //! Laws of the books of a line run. Each function makes no call: its contract is the law.
 
-ghost use Rattle.std.specs.Prelude.{◌≡◌, ◌≤◌, ℕ, List, ◌∷◌, ◌++◌, length, map, slice_get, Some, All, IsSomeAnd};
+ghost use Rattle.std.specs.Prelude.{◌≡◌, ◌≤◌, ℕ, List, ◌∷◌, ◌++◌, length, map, slice_get, Some, All};
+ghost use Rattle.ad_base.specs.declared.book.Entry.{Entry};
 ghost use Rattle.ad_base.specs.declared.image.Image.{Image};
 ghost use Rattle.ad_base.specs.declared.place.Place.{Place};
 ghost use Rattle.ad_core.specs.Turn.{IsLawful};
@@ -36,8 +37,8 @@ pub fn law_books()
         → slice_get (run_of_seed seed workers images fuel before).modules number ≡ Some then
         → slice_get (run_of_seed seed workers images fuel before).stacks worker ≡ Some stack
         → slice_get (run_of_seed seed workers images fuel (before ++ Call line worker number export args ∷ after)).modules number ≡ Some now
-        → IsSomeAnd (slice_get now.book.entries (length (calls_of_module number before)))
-        (IsEntryOf number (Call line worker number export args) then.movable stack) }
+        → (entry : Entry) × (later : List Entry) × (now.book.entries ≡ then.book.entries ++ entry ∷ later)
+        × IsEntryOf number (Call line worker number export args) then.movable stack entry }
 {}
 
 /// The entries of each module's clear history have the ends and the notes that the symbolic machine says of these

@@ -74,10 +74,10 @@ impl MappingList {
         )
     }
 
-    /// What came of the moves, and all mappings.
+    /// What came of the moves, and a row for each mapping.
     pub fn finish(self) -> (Vec<Moved>, Vec<Row>)
         ensures moves { result.0.items ≡ self.placement.moves }
-        ensures mappings { result.1.items ≡ self.placement.rows }
+        ensures rows { result.1.items ≡ self.placement.rows }
     {
         (self.moves, self.rows)
     }

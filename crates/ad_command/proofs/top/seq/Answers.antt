@@ -21,4 +21,4 @@ pub returns : goal.returns
 returns g c =
     let loaded = c.in_ok-loaded.loaded in
     job-ran c.args.script.now c.args.seed c.args.fuel (g.F.Files.outside c.args.files.now) (g.F.Files.outside c.script_of.new.files) c.in_ok-script.script c.in_ok-script.ensures.serves (g.F.Files.outside c.load_images.new.files) loaded.images.items c.in_ok-loaded.ensures.serves
-    (λ (p : Prepared). record { books = map contents_of p.books.items; moves = p.moves.items; rows = p.ledger.items; text = p.text.items }) c.run.result loaded.placer.seed c.in_ok-loaded.ensures.seed c.run.ensures.done c.run.ensures.fault
+    (λ (p : Prepared). record { books = map contents_of p.books.items; moves = p.moves.items; rows = p.ledger.items; text = p.text.items }) c.run_job.result loaded.placer.seed c.in_ok-loaded.ensures.seed c.run_job.ensures.done c.run_job.ensures.fault

@@ -5,7 +5,7 @@ use Rattle.ad_report.specs.Report.{AreMovesInOrder, report}
 use Rattle.ad_command.specs.Command.{Job}
 use Rattle.ad_command.specs.Ending.{Ending}
 use Rattle.ad_command.proofs.Done.{is-run}
-use Rattle.ad_command.proofs.top.run.Goals as goal
+use Rattle.ad_command.proofs.top.run_job.Goals as goal
 
 pub report-requires : goal.report-requires
 report-requires c =
