@@ -1,9 +1,11 @@
 """Writes an object of the one form that Adelie reads today to standard output.
 
     python3 mkobject.py NAME WORD [WORD ..] > FILE
+    python3 mkobject.py NAME --text TEXT > FILE
 
 NAME is the symbol: 1 to 128 letters, digits, `_`, `.` and `$`. Each WORD is an instruction word of 32
-bits, as 0x00b50533; there are 1 to 1,024 of them. docs/FORMATS.md describes the form.
+bits, as 0x00b50533; there are 1 to 1,024 of them. TEXT is a file that has the words as bytes, the lowest
+first, as a compiler's section .text has them. docs/FORMATS.md describes the form.
 """
 
 import re
@@ -49,15 +51,29 @@ def mkobject(name, words):
     return header + body[64:] + b"".join(table)
 
 
+def words_of_text(path):
+    """The words that a file has as bytes, the lowest first."""
+    with open(path, "rb") as file:
+        text = file.read()
+    if len(text) % 4 != 0:
+        sys.exit("mkobject.py: TEXT has whole words of four bytes")
+    return [word for (word,) in struct.iter_unpack("<I", text)]
+
+
 def main():
     name, words = sys.argv[1:2], sys.argv[2:]
     if not name or not re.fullmatch(r"[A-Za-z0-9_.$]{1,128}", name[0]):
         sys.exit("mkobject.py: NAME is 1 to 128 letters, digits, `_`, `.` and `$`")
-    if not 1 <= len(words) <= 1024:
-        sys.exit("mkobject.py: there are 1 to 1,024 words")
     try:
-        numbers = [int(word, 0) for word in words]
+        if words[:1] == ["--text"] and len(words) == 2:
+            numbers = words_of_text(words[1])
+        else:
+            numbers = [int(word, 0) for word in words]
+        if not 1 <= len(numbers) <= 1024:
+            sys.exit("mkobject.py: there are 1 to 1,024 words")
         file = mkobject(name[0].encode(), numbers)
+    except OSError as error:
+        sys.exit(f"mkobject.py: {words[1]}: {error.strerror}")
     except (ValueError, struct.error):
         sys.exit("mkobject.py: a WORD is a number below 2^32, as 0x00b50533")
     sys.stdout.buffer.write(file)

@@ -3,17 +3,10 @@
 # copy of the repository.
 set -eu
 rounds=${1:?usage: stress.sh ROUNDS}
-top=$(cd "$(dirname "$0")/../.." && pwd)
+here=$(cd "$(dirname "$0")" && pwd)
 copy=$(mktemp -d)
 trap 'rm -rf "$copy"' EXIT
-mkdir "$copy/crates"
-cp "$top/crates.txt" "$top/HANDLES" "$copy/"
-for crate in "$top"/crates/*; do
-    mkdir "$copy/crates/$(basename "$crate")"
-    for part in src specs proofs; do
-        [ -d "$crate/$part" ] && cp -r "$crate/$part" "$copy/crates/$(basename "$crate")/"
-    done
-done
+"$here/../copy.sh" "$copy"
 tests=$copy/crates/ad_stacks/src/tests.rt
 sed -i "s/^const ROUNDS: u64 = .*;/const ROUNDS: u64 = $rounds;/; s/(8, ROUNDS, 400)/(8, ROUNDS, 4000)/" "$tests"
 grep -q "(8, ROUNDS, 4000)" "$tests"

@@ -1,4 +1,9 @@
+pub mod Extents
+pub mod ListItems
 pub mod Lists
+pub mod Packing
+pub mod Pages
+pub mod Pieces
 pub mod Ring
 pub mod Taken
 pub mod TextImage

@@ -4,8 +4,10 @@ pub mod End
 pub mod ExportName
 pub mod History
 pub mod Image
+pub mod Layout
 pub mod Ledger
 pub mod Memory
 pub mod Outside
 pub mod Place
 pub mod Private
+pub mod Segments

@@ -1,5 +1,5 @@
 -- Where mappings lie, and the word that a place packs into.
-use Rattle.std.specs.Prelude.{ℕ, ◌+◌, ◌-◌, ◌*◌, ◌/◌, ◌^◌, ◌<◌, ◌≤◌}
+use Rattle.std.specs.Prelude.{ℕ, ◌+◌, ◌-◌, ◌*◌, ◌/◌, ◌%◌, ◌^◌, ◌<◌, ◌≤◌}
 use Rattle.ad_base.specs.declared.layout.TheConstants.{FRAMES, MAPPINGS, MODULE_REGION, PAGE_BYTES, REGION_BYTES, REGION_PAGES, REGIONS, STACK_REGION}
 use Rattle.ad_base.specs.declared.place.Place.{Place}
 
@@ -28,6 +28,16 @@ pub record IsModulePlace (p : Place) : Type 0 where
 -- 35, the mapping number in 36 to 47, the frame in 48 to 55, and bits 56 to 63 are zero.
 abbrev pub packed : Place → ℕ
 packed p = p.region + p.start * 2 ^ 16 + p.pages * 2 ^ 26 + p.mapping * 2 ^ 36 + p.frame * 2 ^ 48
+
+-- the place that packs into this word
+unfoldable pub place_at : ℕ → Place
+place_at word = record {
+  region = word % 2 ^ 16;
+  start = word / 2 ^ 16 % 2 ^ 10;
+  pages = word / 2 ^ 26 % 2 ^ 10;
+  mapping = word / 2 ^ 36 % 2 ^ 12;
+  frame = word / 2 ^ 48 % 2 ^ 8;
+}
 
 -- the address is one of the place's bytes
 pub record IsInside (p : Place) (at : ℕ) : Type 0 where

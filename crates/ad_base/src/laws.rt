@@ -5,9 +5,10 @@ ghost use Rattle.ad_base.specs.declared.place.Place.{Place};
 ghost use Rattle.ad_base.specs.Place.{base_of, packed, IsPlace};
 
 use crate::layout::{
-    FETCH_BYTES, FILE_BYTES, FRAMES, GATE, INSTRUCTION_BYTES, LOCAL_PAGES, LOCAL_WORDS, MAPPINGS,
-    MODULE_REGION, MODULE_REGIONS, MODULES, PAGE_BYTES, PART_PAGES, REGION_BYTES, REGION_PAGES,
-    REGIONS, STACK_PAGES, STACK_REGION, STACK_REGIONS, STUB_PAGES, TABLE_PAGES, TABLE_WORDS,
+    FETCH_BYTES, FILE_BYTES, FIRST_SERVICE, FRAMES, GATE, INSTRUCTION_BYTES, K_ABORT, K_IN, K_NOTE,
+    K_OUT, LOCAL_PAGES, LOCAL_WORDS, MAPPINGS, MODULE_REGION, MODULE_REGIONS, MODULES, NOTES,
+    PAGE_BYTES, PART_PAGES, QUEUE_WORDS, REGION_BYTES, REGION_PAGES, REGIONS, SERVICE_BYTES,
+    SERVICES, STACK_PAGES, STACK_REGION, STACK_REGIONS, STUB_PAGES, TABLE_PAGES, TABLE_WORDS,
     WORD_BYTES, WORKERS,
 };
 
@@ -26,6 +27,15 @@ pub fn law_layout()
     ensures modules { MODULES ≡ 8 }
     ensures workers { WORKERS ≡ 64 }
     ensures gate { GATE ≡ REGION_BYTES }
+    ensures services { FIRST_SERVICE ≡ GATE + 16 }
+    ensures service { SERVICE_BYTES ≡ 16 }
+    ensures services_are { SERVICES ≡ 4 }
+    ensures note { K_NOTE ≡ 0 }
+    ensures abort { K_ABORT ≡ 1 }
+    ensures out { K_OUT ≡ 2 }
+    ensures in_ { K_IN ≡ 3 }
+    ensures notes { NOTES ≡ 16 }
+    ensures queue { QUEUE_WORDS ≡ 256 }
     ensures fetch { FETCH_BYTES ≡ 4 }
     ensures instruction { INSTRUCTION_BYTES ≡ 4 }
     ensures part { PART_PAGES ≡ 62 }

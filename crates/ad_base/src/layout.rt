@@ -10,6 +10,33 @@ pub const REGION_BYTES: u64 = 0x40000;
 /// The address that a call returns to: the first one of region 1.
 pub const GATE: u64 = 0x40000;
 
+/// The address of the first service, in region 1.
+pub const FIRST_SERVICE: u64 = 0x40010;
+
+/// Bytes from one service's address to the next one's.
+pub const SERVICE_BYTES: u64 = 16;
+
+/// Services. They are numbered from 0.
+pub const SERVICES: u8 = 4;
+
+/// The number of the service `k_note`.
+pub const K_NOTE: u8 = 0;
+
+/// The number of the service `k_abort`.
+pub const K_ABORT: u8 = 1;
+
+/// The number of the service `k_out`.
+pub const K_OUT: u8 = 2;
+
+/// The number of the service `k_in`.
+pub const K_IN: u8 = 3;
+
+/// Notes that a call makes at most.
+pub const NOTES: u64 = 16;
+
+/// Words that a device queue holds at most.
+pub const QUEUE_WORDS: u64 = 256;
+
 /// Bytes that one fetch reads. The address of a fetch, and so an entry and a target, is a multiple of
 /// them.
 pub const FETCH_BYTES: u64 = 4;

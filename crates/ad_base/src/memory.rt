@@ -1,6 +1,8 @@
 //! Want of memory, the one answer of a call that has no cause in its contract.
 
-use std::alloc::{AllocError, AllocFailed};
+ghost use Rattle.std.specs.Prelude.{◌≡◌, vec_len, All, IfOk};
+
+use std::alloc::{AllocError, AllocFailed, Global};
 use std::error::Error;
 use std::fmt;
 
@@ -30,4 +32,12 @@ impl<T: Drop> From<AllocFailed<T>> for OutOfMemory {
     fn from(_error: AllocFailed<T>) -> OutOfMemory {
         OutOfMemory
     }
+}
+
+/// So many words that are 0. The one error is want of memory.
+pub fn zero_words(alloc: Global, count: usize) -> Result<Vec<u64>, OutOfMemory>
+    ensures len { IfOk result (λ words. vec_len words ≡ count) }
+    ensures zero { IfOk result (λ words. All (λ word. word ≡ 0) words.items) }
+{
+    Ok(vec![in alloc; 0; count]?)
 }

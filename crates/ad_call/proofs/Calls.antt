@@ -1,5 +1,5 @@
 -- What a call makes of a book, from what its parts say.
-use Rattle.std.proofs.Common.{◌≡◌, ℕ, ◌+◌, ◌*◌, ◌%◌, ◌^◌, List, [], ◌∷◌, ◌++◌, length, Some, slice_get, ap, ◌∙◌}
+use Rattle.std.proofs.Common.{◌≡◌, ℕ, ◌+◌, ◌*◌, ◌%◌, ◌^◌, List, [], ◌∷◌, ◌++◌, Some, slice_get, ap, ◌∙◌}
 use Rattle.std.specs.Option.{option_map_or}
 use Rattle.ad_base.specs.declared.book.Entry.{Entry}
 use Rattle.ad_base.specs.declared.end.End.{End}
@@ -9,8 +9,10 @@ use Rattle.ad_base.specs.declared.layout.TheConstants.{PAGE_BYTES, STACK_PAGES}
 use Rattle.ad_base.specs.declared.place.Place.{Place}
 use Rattle.ad_base.specs.Book.{Contents}
 use Rattle.ad_base.specs.Place.{base_of}
-use Rattle.ad_core.specs.Segments.{bytes_of_role, is_data, is_fixed_data, sizes}
-use Rattle.ad_core.specs.Plain.{PlainOutcome, plain_call, at_start}
+use Rattle.ad_base.specs.Segments.{bytes_of_role, extents, is_data, is_fixed_data}
+use Rattle.ad_base.proofs.Extents.{length-bytes_of_role}
+use Rattle.ad_core.specs.Memory.{Memory}
+use Rattle.ad_core.specs.Plain.{PlainOutcome, plain_call}
 use Rattle.ad_core.specs.Image.{segments_of, fresh_stack}
 use Rattle.ad_core.specs.Turn.{export_offset}
 use Rattle.ad_call.specs.declared.call.Call.{Call}
@@ -29,23 +31,25 @@ pub record IsGiven (image : Image) (book : Contents) (c : Call) (entry sp : ℕ)
   pub fixed_is : fixed ≡ book.fixed
   pub device_is : device ≡ book.device
 
+-- what a call finds, where stack and data hold these bytes
+abbrev pub memory_of : Image → Place → Place → List ℕ → List ℕ → List ℕ → List ℕ → List ℕ → Memory
+memory_of image under stack bytes fixed writable notes queue = record { segments = segments_of image under stack bytes fixed writable; notes = notes; queue = queue }
+
 -- what the code hands to the machine
 abbrev pub ran_on : Image → ℕ → Call → List ℕ → ℕ → ℕ → List ℕ → List ℕ → List ℕ → List ℕ → PlainOutcome
-ran_on image fuel c args entry sp notes writable fixed device = plain_call fuel entry args sp (at_start (segments_of image c.under c.stack fresh_stack fixed writable) notes device)
+ran_on image fuel c args entry sp notes writable fixed device = plain_call fuel entry args sp (memory_of image c.under c.stack fresh_stack fixed writable notes device)
 
 module _ (image : Image) (fuel : ℕ) (book : Contents) (c : Call) (args : List ℕ) (entry sp : ℕ) (notes writable fixed device : List ℕ) (given : IsGiven image book c entry sp notes writable fixed device) where
   -- the machine's run is that of the call
   same_run : ran_on image fuel c args entry sp notes writable fixed device ≡ outcome_of image fuel book c args
   unfolding outcome_of
-  same_run = λ j. plain_call fuel (given.entry_is j) args (given.sp_is j) (at_start (segments_of image c.under c.stack fresh_stack (given.fixed_is j) (given.writable_is j)) (given.no_note j) (given.device_is j))
+  same_run = λ j. plain_call fuel (given.entry_is j) args (given.sp_is j) (memory_of image c.under c.stack fresh_stack (given.fixed_is j) (given.writable_is j) (given.no_note j) (given.device_is j))
 
-  module _ (seen : Image) (under stack : Place) (end : End) (made written kept left copy : List ℕ) (entries : List Entry) where
+  module _ (seen : Image) (under stack : Place) (end : End) (bytes made written kept left copy : List ℕ) (entries : List Entry) where
     -- what the run left, and the entry that was appended
     pub record Left : Type 0 where
       pub end_is : end ≡ (ran_on image fuel c args entry sp notes writable fixed device).end
-      pub segments : segments_of seen under stack fresh_stack kept written ≡ (ran_on image fuel c args entry sp notes writable fixed device).memory.segments
-      pub notes_are : made ≡ (ran_on image fuel c args entry sp notes writable fixed device).memory.notes
-      pub queue : left ≡ (ran_on image fuel c args entry sp notes writable fixed device).memory.queue
+      pub memory : memory_of seen under stack bytes kept written made left ≡ (ran_on image fuel c args entry sp notes writable fixed device).memory
       pub copied : copy ≡ args
       pub appended : entries ≡ book.entries ++ record { line = c.line; worker = c.worker; export = c.export; args = copy; under = c.under; stack = c.stack; notes = made; end = end } ∷ []
 
@@ -56,20 +60,18 @@ module _ (image : Image) (fuel : ℕ) (book : Contents) (c : Call) (args : List 
         let o = outcome_of image fuel book c args in
         let same = same_run in
         let ended = l.end_is ∙ ap (λ (r : PlainOutcome). r.end) same in
-        let noted = l.notes_are ∙ ap (λ (r : PlainOutcome). r.memory.notes) same in
-        let segments = l.segments ∙ ap (λ (r : PlainOutcome). r.memory.segments) same in
-        let queued = l.queue ∙ ap (λ (r : PlainOutcome). r.memory.queue) same in
+        let memory = l.memory ∙ ap (λ (r : PlainOutcome). r.memory) same in
         let copied = l.copied in
         let made_entry : Entry = record { line = c.line; worker = c.worker; export = c.export; args = copy; under = c.under; stack = c.stack; notes = made; end = end } in
-        let is : made_entry ≡ entry_of c args o = λ j. record { line = c.line; worker = c.worker; export = c.export; args = copied j; under = c.under; stack = c.stack; notes = noted j; end = ended j } in
+        let is : made_entry ≡ entry_of c args o = λ j. record { line = c.line; worker = c.worker; export = c.export; args = copied j; under = c.under; stack = c.stack; notes = (memory j).notes; end = ended j } in
         let all = l.appended ∙ ap (λ (x : Entry). book.entries ++ x ∷ []) is in
-        λ j. record { writable = ap (bytes_of_role is_data) segments j; fixed = ap (bytes_of_role is_fixed_data) segments j; device = queued j; entries = all j }
+        λ j. record { writable = bytes_of_role is_data (memory j).segments; fixed = bytes_of_role is_fixed_data (memory j).segments; device = (memory j).queue; entries = all j }
 
--- segments of equal sizes have data of equal lengths
-pub has_data : (i seen image : Image) (under stack under' stack' : Place) (fixed writable kept written : List ℕ)
-    → sizes (segments_of seen under' stack' fresh_stack kept written) ≡ sizes (segments_of image under stack fresh_stack fixed writable)
+-- segments that lie alike have data of equal lengths
+pub has_data : (i seen image : Image) (under stack under' stack' : Place) (bytes fixed writable bytes' kept written : List ℕ)
+    → extents (segments_of seen under' stack' bytes' kept written) ≡ extents (segments_of image under stack bytes fixed writable)
     → HasData i writable fixed → HasData i written kept
-has_data i seen image under stack under' stack' fixed writable kept written same h =
-    let w : length written ≡ length writable = cc in
-    let k : length kept ≡ length fixed = cc in
-    record { movable = w ∙ h.movable; immovable = k ∙ h.immovable }
+has_data i seen image under stack under' stack' bytes fixed writable bytes' kept written same h = record {
+  movable = length-bytes_of_role is_data (segments_of seen under' stack' bytes' kept written) (segments_of image under stack bytes fixed writable) same ∙ h.movable;
+  immovable = length-bytes_of_role is_fixed_data (segments_of seen under' stack' bytes' kept written) (segments_of image under stack bytes fixed writable) same ∙ h.immovable;
+}

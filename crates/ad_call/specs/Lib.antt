@@ -1,2 +1,2 @@
 pub mod Call
-pub mod Found
+pub mod Private

@@ -1,16 +1,15 @@
 //! The memory that a call of a module reaches.
 
-ghost use Rattle.ad_base.specs.Image.{movable_pages, IsWhole};
-ghost use Rattle.ad_core.specs.Image.{text_bytes};
+ghost use Rattle.ad_base.specs.declared.layout.TheConstants.{PAGE_BYTES, STACK_PAGES};
+ghost use Rattle.ad_base.specs.Image.{IsWhole};
 ghost use Rattle.ad_call.specs.Call.{HasData};
-ghost use Rattle.ad_call.specs.Found.{found_in_part, found_in_parts, found_in_call};
-ghost use Rattle.std.specs.Prelude.{◌≡◌, ◌≤◌, ◌<◌, ◌+◌, ◌*◌, ◌%◌, length, Some, None, Option, List, ℕ, []};
+ghost use Rattle.ad_call.specs.Private.Spots.{spot_at};
+ghost use Rattle.std.specs.Prelude.{◌≡◌, ◌*◌, length};
 
-use ad_base::{
-    Device, FETCH_BYTES, GATE, Image, LOCAL_PAGES, Notes, PAGE_BYTES, Place, REGION_BYTES,
-    STACK_PAGES, STUB_PAGES, Sequence, TABLE_PAGES, field_u32,
-};
-use ad_core::{Bus, Fetched};
+use crate::held::CallBytes;
+use crate::spot::{Spot, locate};
+use ad_base::{Device, GATE, Image, Notes, Place, REGION_BYTES};
+use ad_core::{Bus, Fetched, Refusal, Served, make_service, service_at};
 
 /// The parts of a module and a stack, as a call reaches them.
 #[derive(Drop)]
@@ -20,119 +19,76 @@ pub struct ModuleBus<'a> {
     pub under: Place,
     /// Where the stack lies.
     pub stack: Place,
-    /// The data of the movable part.
-    pub writable: Sequence<u8>,
-    /// The data of the immovable part.
-    pub fixed: Sequence<u8>,
+    /// What the stack and the data hold.
+    pub bytes: CallBytes,
     pub device: Device,
     pub notes: Notes,
     ghost whole: { IsWhole image.now },
-    ghost data: { HasData image.now writable fixed },
+    ghost fresh: { length bytes.stack ≡ STACK_PAGES * PAGE_BYTES },
+    ghost data: { HasData image.now bytes.writable bytes.fixed },
 }
 
 impl Bus for ModuleBus<'_> {
-    ghost use Rattle.std.specs.Prelude.{List, ℕ};
-    ghost use Rattle.ad_core.specs.Image.{segments_of, fresh_stack};
+    ghost use Rattle.ad_call.specs.Private.WholeWords.{segments-whole};
+    ghost use Rattle.ad_core.specs.Image.{segments_of};
 
     type Track = ();
 
-    ghost segments = { λ b. segments_of b.image.now b.under b.stack fresh_stack b.fixed b.writable };
-
-    ghost notes = { λ b. b.notes };
-
-    ghost queue = { λ b. b.device };
+    ghost memory = { λ b. record {
+      segments = segments_of b.image.now b.under b.stack b.bytes.stack b.bytes.fixed b.bytes.writable;
+      notes = b.notes;
+      queue = b.device;
+    } };
 
     ghost track = { λ _. record {} };
 
     ghost rule = { λ track _. track };
+
+    ghost whole_words = { λ b. segments-whole b.image.now b.under b.stack b.bytes.stack b.bytes.fixed b.bytes.writable b.whole b.fresh b.data };
 
     fn fetch(&mut self, at: u64) -> Fetched {
         if at == GATE {
             return Fetched::Gate;
         }
         if at / REGION_BYTES == 1 {
-            return Fetched::Fault;
+            return service_at(at);
         }
-        self.found(at)
+        match self.locate(at) {
+            Some(spot) => self.word(spot),
+            None => Fetched::Fault,
+        }
+    }
+
+    fn load(&mut self, at: u64, size: u8) -> Result<u64, Refusal> {
+        if at / REGION_BYTES == 1 {
+            return Err(Refusal::Fault);
+        }
+        match self.locate(at) {
+            Some(spot) => Ok(self.number(spot, size)),
+            None => Err(Refusal::Fault),
+        }
+    }
+
+    fn store(&mut self, at: u64, size: u8, value: u64) -> Result<(), Refusal> {
+        if at / REGION_BYTES == 1 {
+            return Err(Refusal::Fault);
+        }
+        match self.locate(at) {
+            Some(spot) => self.bytes.put(spot, size, value),
+            None => Err(Refusal::Fault),
+        }
+    }
+
+    fn service(&mut self, number: u8, a0: u64) -> Served {
+        make_service(number, a0, &mut self.notes, &mut self.device)
     }
 }
 
 impl ModuleBus<'_> {
-    /// What is found at an address outside region 1: in the stack, in the immovable part, else in
-    /// the movable one.
-    fn found(&self, at: u64) -> Fetched
-        requires { at % FETCH_BYTES ≡ 0 }
-        ensures { result ≡ found_in_call self.now.image.now self.now.under self.now.stack at }
+    /// The byte at an address.
+    fn locate(&self, at: u64) -> Option<Spot>
+        ensures { result ≡ spot_at self.now.image.now self.now.under self.now.stack at }
     {
-        let stack = self.stack.base();
-        if at >= stack && at - stack < u64::from(STACK_PAGES) * PAGE_BYTES {
-            Fetched::Denied
-        } else {
-            found_in_parts(self.image, self.under, at)
-        }
+        locate(self.image, self.under, self.stack, at)
     }
-}
-
-/// What is found in the immovable part of an image, or else in the movable one.
-fn found_in_parts(image: &Image, under: Place, at: u64) -> Fetched
-    requires aligned { at % FETCH_BYTES ≡ 0 }
-    requires whole { IsWhole image.now }
-    ensures { result ≡ found_in_parts image.now under at }
-{
-    let fixed = found_in_part(
-        image.fixed_code.as_slice(),
-        text_bytes(image.fixed_text_pages),
-        u64::from(image.fixed.pages) * PAGE_BYTES,
-        image.fixed.base(),
-        at,
-    );
-    if let Some(found) = fixed {
-        return found;
-    }
-    let movable = found_in_part(
-        image.code.as_slice(),
-        text_bytes(image.text_pages),
-        movable_bytes(image),
-        under.base(),
-        at,
-    );
-    movable.unwrap_or(Fetched::Fault)
-}
-
-/// The bytes of the text pages, and of the stub page behind them.
-fn text_bytes(text_pages: u16) -> u64
-    ensures { result ≡ text_bytes text_pages }
-{
-    (u64::from(text_pages) + u64::from(STUB_PAGES)) * PAGE_BYTES
-}
-
-/// The bytes of an image's movable part.
-fn movable_bytes(image: &Image) -> u64
-    requires { IsWhole image.now }
-    ensures { result ≡ movable_pages image.now * PAGE_BYTES }
-{
-    let pages = u64::from(image.text_pages)
-        + u64::from(STUB_PAGES)
-        + u64::from(image.read_pages)
-        + u64::from(TABLE_PAGES)
-        + u64::from(LOCAL_PAGES)
-        + u64::from(image.data_pages);
-    pages * PAGE_BYTES
-}
-
-/// What is found at an address of a part that begins with this code, of which so many bytes may be
-/// fetched, and is `size` bytes long; `None` where the address isn't the part's.
-fn found_in_part(code: &[u8], fetched: u64, size: u64, base: u64, at: u64) -> Option<Fetched>
-    requires aligned { (at % FETCH_BYTES ≡ 0) × (base % FETCH_BYTES ≡ 0) × (fetched % FETCH_BYTES ≡ 0) }
-    requires code { fetched ≤ length code.now }
-    ensures { result ≡ found_in_part code.now fetched size base at }
-{
-    if at < base || at - base >= size {
-        return None;
-    }
-    let offset = at - base;
-    if offset >= fetched {
-        return Some(Fetched::Denied);
-    }
-    Some(Fetched::Word(field_u32(code, offset)))
 }

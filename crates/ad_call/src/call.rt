@@ -6,6 +6,7 @@ ghost use Rattle.ad_base.specs.Image.{IsWhole};
 ghost use Rattle.ad_call.specs.Call.{after_call, HasData};
 
 use crate::bus::ModuleBus;
+use crate::held::CallBytes;
 use ad_base::{Args, Book, Device, Entry, Image, Notes, PAGE_BYTES, Place, STACK_PAGES};
 use std::mem;
 
@@ -40,21 +41,18 @@ pub fn run_call(image: &Image, book: &mut Book, call: Call, args: &Args, fuel: u
         image,
         under: call.under,
         stack: call.stack,
-        writable: book.writable.take(),
-        fixed: book.fixed.take(),
+        bytes: CallBytes::fresh(book.fixed.take(), book.writable.take()),
         device: mem::replace(&mut book.device, Device::new()),
         notes: Notes::new(),
     };
     let end = ad_core::call(&mut bus, entry, args, sp, fuel);
     let ModuleBus {
-        writable,
-        fixed,
+        bytes,
         device,
         notes,
         ..
     } = bus;
-    book.writable = writable;
-    book.fixed = fixed;
+    (book.fixed, book.writable) = bytes.into_data();
     book.device = device;
     book.history.push(Entry {
         line: call.line,

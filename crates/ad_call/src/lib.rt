@@ -2,8 +2,13 @@
 #![tactic(auto)]
 
 mod bus;
+mod bytes;
 mod call;
-#[cfg(test)]
-mod tests;
+mod held;
+mod pieces;
+mod spot;
 
 pub use call::{Call, run_call};
+
+#[cfg(test)]
+mod tests;

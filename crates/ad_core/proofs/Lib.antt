@@ -1,4 +1,4 @@
-pub mod Pages
+pub mod Made
 pub mod Registers
 pub mod Runs
-pub mod Sizes
+pub mod Stay

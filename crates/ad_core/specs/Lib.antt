@@ -1,7 +1,8 @@
-pub mod Segments
-pub mod Plain
-pub mod Steps
-pub mod Code
-pub mod Image
-pub mod Turn
+pub mod Bus
 pub mod Examples
+pub mod Image
+pub mod Memory
+pub mod Plain
+pub mod Private
+pub mod Steps
+pub mod Turn

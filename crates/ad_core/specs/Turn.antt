@@ -8,8 +8,9 @@ use Rattle.ad_base.specs.declared.image.Export.{Export}
 use Rattle.ad_base.specs.declared.place.Place.{Place}
 use Rattle.ad_base.specs.Book.{Contents}
 use Rattle.ad_base.specs.Place.{base_of}
-use Rattle.ad_core.specs.Segments.{Segment, bytes_of_role, is_data, is_fixed_data}
-use Rattle.ad_core.specs.Plain.{PlainOutcome, at_start, plain_call}
+use Rattle.ad_base.specs.Segments.{Segment, bytes_of_role, is_data, is_fixed_data}
+use Rattle.ad_core.specs.Memory.{Memory}
+use Rattle.ad_core.specs.Plain.{PlainOutcome, plain_call}
 use Rattle.ad_core.specs.Image.{segments_of, fresh_stack}
 
 -- the offset of an export, by its number
@@ -17,13 +18,17 @@ abbrev pub export_offset : Image → ℕ → ℕ
 export_offset i number = option_map_or (λ (x : Export). x.offset) (slice_get i.exports number) 0
 
 -- what a call reaches under these places: a fresh stack, and the data that the book holds
-abbrev pub reached : Image → Contents → Place → Place → List Segment
+abbrev pub reached : Image → Contents → Place → Place → List (Segment ℕ)
 reached i book under stack = segments_of i under stack fresh_stack book.fixed book.writable
 
--- the call of an entry at an offset of the movable part, with no note so far and the book's queue
+-- what a call finds: these segments, no note so far, and the book's queue
+abbrev pub memory_before : Image → Contents → Place → Place → Memory
+memory_before i book under stack = record { segments = reached i book under stack; notes = []; queue = book.device }
+
+-- the call of an entry at an offset of the movable part
 abbrev pub plain : Image → ℕ → Contents → Place → Place → ℕ → List ℕ → PlainOutcome
 plain i fuel book under stack offset args =
-    plain_call fuel ((base_of under + offset) % 2 ^ 64) args (base_of stack + STACK_PAGES * PAGE_BYTES) (at_start (reached i book under stack) [] book.device)
+    plain_call fuel ((base_of under + offset) % 2 ^ 64) args (base_of stack + STACK_PAGES * PAGE_BYTES) (memory_before i book under stack)
 
 -- the data of the movable part, and of the immovable one, that a call left
 abbrev pub writable_of : PlainOutcome → List ℕ

@@ -1,17 +1,17 @@
 //! The registers of the machine, and what an instruction does to them.
 
 ghost use Rattle.std.specs.Int.{cast_unsigned, w64};
-ghost use Rattle.std.specs.Prelude.{if◌then◌else◌, ◌+◌, ◌^◌, ◌≡◌, ◌<◌, ◌%◌, slice_index, Ok, Some, IfNone};
+ghost use Rattle.std.specs.Prelude.{if◌then◌else◌, ◌+◌, ◌^◌, ◌≡◌, ◌<◌, ◌%◌, slice_index, Ok, IfNone};
 ghost use Rattle.ad_isa.specs.Words.{HasWord};
 ghost use Rattle.ad_isa.specs.Numbers.{numbers};
 ghost use Rattle.ad_isa.specs.Rows.{effect, register, with_register};
 ghost use Rattle.ad_isa.specs.Rows as rows;
-ghost use Rattle.ad_isa.specs.Step.{execute, settle, to_target};
-ghost use Rattle.ad_core.specs.Plain.{first_registers, Memory, segments_storage};
-ghost use Rattle.ad_core.specs.Code.{effect_of, state_of, next_of, IsInRange};
+ghost use Rattle.ad_isa.specs.Step.{to_target};
+ghost use Rattle.ad_core.specs.Plain.{first_registers, plain_storage, Tracked};
+ghost use Rattle.ad_core.specs.Private.Code.{answered, came_to, effect_of, IsInRange};
 
 use crate::effect::Effect;
-use ad_base::{Args, End, FETCH_BYTES, GATE, INSTRUCTION_BYTES};
+use ad_base::{Args, End, FETCH_BYTES, GATE};
 use ad_isa::{Instr, holds, operation, word_operation};
 
 /// Where a0, the first of the registers for arguments, stands.
@@ -50,7 +50,7 @@ impl Hart {
     }
 
     /// What a register holds.
-    fn get(&self, number: u8) -> u64
+    pub fn get(&self, number: u8) -> u64
         requires { number < 32 }
         ensures { result ≡ register numbers self.now.registers number }
     {
@@ -62,7 +62,7 @@ impl Hart {
     }
 
     /// Gives a register a value.
-    fn set(&mut self, number: u8, value: u64)
+    pub fn set(&mut self, number: u8, value: u64)
         requires { number < 32 }
         ensures { self.new
             ≡ record self.old {
@@ -76,7 +76,7 @@ impl Hart {
 
     /// What an instruction comes to, which the instruction at `next` follows.
     #[tactic(auto, unfolding(ad_isa::specs::Rows::effect))]
-    fn effect(&self, instr: Instr, next: u64) -> Effect
+    pub fn effect(&self, instr: Instr, next: u64) -> Effect
         requires { HasWord instr }
         ensures is { effect numbers self.now.registers self.now.pc next instr
             ≡ Ok (effect_of result) }
@@ -167,52 +167,12 @@ impl Hart {
         }
     }
 
-    /// Makes the step of an instruction, or gives the end that it comes to.
-    pub fn execute(&mut self, instr: Instr) -> Option<End>
-        requires has_word { HasWord instr }
-        requires aligned { self.old.pc % FETCH_BYTES ≡ 0 }
-        ensures aligned { IfNone result (self.new.pc % FETCH_BYTES ≡ 0) }
-        ensures next { (m : Memory)
-            → execute numbers segments_storage (state_of self.old) m INSTRUCTION_BYTES (Some instr)
-            ≡ Ok (next_of result self.new m) }
-    {
-        let next = self.pc.wrapping_add(INSTRUCTION_BYTES);
-        let effect = self.effect(instr, next);
-        self.settle(effect, next)
-    }
-
-    /// Makes an effect, where an instruction follows that is at `next`, or gives the end that it comes to.
-    fn settle(&mut self, effect: Effect, next: u64) -> Option<End>
-        requires range { IsInRange effect }
-        requires aligned { next % FETCH_BYTES ≡ 0 }
-        ensures aligned { IfNone result (self.new.pc % FETCH_BYTES ≡ 0) }
-        ensures next { (m : Memory)
-            → settle numbers segments_storage (state_of self.old) m next (effect_of effect)
-            ≡ next_of result self.new m }
-    {
-        match effect {
-            Effect::Passes => self.go(next),
-            Effect::Writes { rd, value } => {
-                self.set(rd, value);
-                self.go(next)
-            }
-            Effect::Jumps { rd, link, target } => {
-                self.set(rd, link);
-                self.go(target)
-            }
-            Effect::Branches { target } => self.go(target),
-            Effect::Loads { .. } => Some(End::Illegal),
-            Effect::Stores { .. } => Some(End::Illegal),
-            Effect::Stops(end) => Some(end),
-        }
-    }
-
     /// Goes on to a target, which must be a multiple of the bytes of a fetch.
-    fn go(&mut self, target: u64) -> Option<End>
+    pub fn go(&mut self, target: u64) -> Option<End>
         ensures aligned { IfNone result (self.new.pc % FETCH_BYTES ≡ 0) }
-        ensures next { (m : Memory)
-            → to_target numbers segments_storage self.old.registers m target
-            ≡ next_of result self.new m }
+        ensures next { (m : Tracked)
+            → came_to (to_target numbers plain_storage self.old.registers m target)
+            ≡ (answered result self.new, m) }
     {
         if target % FETCH_BYTES != 0 {
             return Some(End::Misaligned);

@@ -6,10 +6,15 @@ mod effect;
 mod hart;
 mod laws;
 mod run;
+mod service;
+mod step;
 
-pub use bus::{Bus, Fetched};
-pub use laws::{law_data_segments, law_sizes_stay, law_worked_calls};
+pub use bus::{Bus, Fetched, Refusal, Served};
+pub use laws::{
+    law_data_segments, law_extents_stay, law_worked_accesses, law_worked_calls, law_worked_services,
+};
 pub use run::call;
+pub use service::{make_service, service_at};
 
 #[cfg(test)]
 mod tests;

@@ -1,30 +1,22 @@
 //! Calls.
 
-ghost use Rattle.std.specs.Prelude.{◌≡◌, ◌≢◌, ◌%◌, ◌++◌, fold, List, IfNone};
-ghost use Rattle.ad_core.specs.Segments.{Access, accesses_of_fetch, track_after_fetch};
-ghost use Rattle.ad_core.specs.Plain.{plain_step, plain_call, plain_run, at_start};
-ghost use Rattle.ad_core.specs.Code.{state_of, next_of, RunsTo};
+ghost use Rattle.std.specs.Prelude.{◌≡◌, ◌≢◌, ◌%◌, fold, IfNone};
+ghost use Rattle.ad_core.specs.Plain.{plain_call, plain_run, untouched};
+ghost use Rattle.ad_core.specs.Private.Code.{state_of, RunsTo};
 
-use crate::bus::{Bus, Fetched};
+use crate::bus::Bus;
 use crate::hart::Hart;
+use crate::step::step;
 use ad_base::{Args, End, FETCH_BYTES, GATE};
-use ad_isa::decode;
 
 /// Runs a call of the entry at an address, with these arguments in a0 and the registers behind it,
 /// the end of its stack in sp, and at most `fuel` steps. It gives how the call ended, and leaves
 /// what the call made of the memory in the bus.
 pub fn call<B: Bus>(bus: &mut B, entry: u64, args: &Args, sp: u64, fuel: u64) -> End
-    ensures end { result ≡ (plain_call fuel entry args.now sp
-        (at_start (B.segments bus.old) (B.notes bus.old) (B.queue bus.old))).end }
-    ensures segments { B.segments bus.new ≡ (plain_call fuel entry args.now sp
-        (at_start (B.segments bus.old) (B.notes bus.old) (B.queue bus.old))).memory.segments }
-    ensures notes { B.notes bus.new ≡ (plain_call fuel entry args.now sp
-        (at_start (B.segments bus.old) (B.notes bus.old) (B.queue bus.old))).memory.notes }
-    ensures queue { B.queue bus.new ≡ (plain_call fuel entry args.now sp
-        (at_start (B.segments bus.old) (B.notes bus.old) (B.queue bus.old))).memory.queue }
+    ensures end { result ≡ (plain_call fuel entry args.now sp (B.memory bus.old)).end }
+    ensures memory { B.memory bus.new ≡ (plain_call fuel entry args.now sp (B.memory bus.old)).memory }
     ensures track { B.track bus.new
-        ≡ fold B.rule (B.track bus.old) (plain_call fuel entry args.now sp
-        (at_start (B.segments bus.old) (B.notes bus.old) (B.queue bus.old))).memory.accesses }
+        ≡ fold B.rule (B.track bus.old) (plain_call fuel entry args.now sp (B.memory bus.old)).accesses }
 {
     begin(bus, entry, args, sp, fuel)
 }
@@ -32,10 +24,8 @@ pub fn call<B: Bus>(bus: &mut B, entry: u64, args: &Args, sp: u64, fuel: u64) ->
 /// Begins a call and runs it. Its contract says as one fact what `call` says in several.
 #[tactic(auto, unfolding(crate::specs::Plain::plain_call))]
 fn begin<B: Bus>(bus: &mut B, entry: u64, args: &Args, sp: u64, fuel: u64) -> End
-    ensures { RunsTo (B.segments bus.new) (B.notes bus.new) (B.queue bus.new)
-        (B.track bus.new) B.rule (B.track bus.old) result
-        (plain_call fuel entry args.now sp
-        (at_start (B.segments bus.old) (B.notes bus.old) (B.queue bus.old))) }
+    ensures { RunsTo B.rule (B.track bus.old) result (B.memory bus.new) (B.track bus.new)
+        (plain_call fuel entry args.now sp (B.memory bus.old)) }
 {
     if entry % FETCH_BYTES != 0 {
         return End::Misaligned;
@@ -48,10 +38,8 @@ fn begin<B: Bus>(bus: &mut B, entry: u64, args: &Args, sp: u64, fuel: u64) -> En
 /// step, and once more when the fuel is spent.
 fn run<B: Bus>(bus: &mut B, hart: &mut Hart, fuel: u64) -> End
     requires { hart.old.pc % FETCH_BYTES ≡ 0 }
-    ensures { RunsTo (B.segments bus.new) (B.notes bus.new) (B.queue bus.new)
-        (B.track bus.new) B.rule (B.track bus.old) result
-        (plain_run fuel (state_of hart.old)
-        (at_start (B.segments bus.old) (B.notes bus.old) (B.queue bus.old))) }
+    ensures { RunsTo B.rule (B.track bus.old) result (B.memory bus.new) (B.track bus.new)
+        (plain_run fuel (state_of hart.old) (untouched (B.memory bus.old))) }
 {
     for _ in 0..fuel {
         if hart.pc == GATE {
@@ -65,36 +53,5 @@ fn run<B: Bus>(bus: &mut B, hart: &mut Hart, fuel: u64) -> End
         End::Returned(hart.first_argument())
     } else {
         End::Fuel
-    }
-}
-
-/// Makes one step, or gives the end that it comes to.
-#[tactic(auto, unfolding(crate::specs::Plain::plain_step, ad_isa::specs::Step::step, crate::specs::Segments::fetched))]
-fn step<B: Bus>(bus: &mut B, hart: &mut Hart) -> Option<End>
-    requires aligned { hart.old.pc % FETCH_BYTES ≡ 0 }
-    requires running { hart.old.pc ≢ GATE }
-    ensures next { (accesses : List Access)
-        → plain_step (state_of hart.old) (record {
-          segments = B.segments bus.old;
-          notes = B.notes bus.old;
-          queue = B.queue bus.old;
-          accesses = accesses;
-        }) ≡ next_of result hart.new (record {
-          segments = B.segments bus.new;
-          notes = B.notes bus.new;
-          queue = B.queue bus.new;
-          accesses = accesses ++ accesses_of_fetch hart.old.pc;
-        }) }
-    ensures track { B.track bus.new ≡ track_after_fetch B.rule hart.old.pc (B.track bus.old) }
-    ensures aligned { IfNone result (hart.new.pc % FETCH_BYTES ≡ 0) }
-{
-    match bus.fetch(hart.pc) {
-        Fetched::Word(word) => match decode(word) {
-            Some(instr) => hart.execute(instr),
-            None => Some(End::Illegal),
-        },
-        Fetched::Gate => unreachable!(),
-        Fetched::Fault => Some(End::Fault),
-        Fetched::Denied => Some(End::Denied),
     }
 }

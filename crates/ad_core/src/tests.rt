@@ -1,58 +1,11 @@
 //! Calls over a few words of code.
 
-ghost use Rattle.std.specs.Prelude.{◌≡◌, ◌%◌};
+mod code_bus;
+mod emulated;
 
-use crate::{Bus, Fetched, call};
-use ad_base::{Args, End, GATE, REGION_BYTES, field_u32};
-use byteorder::{ByteOrder, LittleEndian};
-
-/// Where the code lies.
-const BASE: u64 = 0x100000;
-
-/// A memory of four words of code.
-#[derive(Debug, Drop)]
-struct CodeBus {
-    base: u64,
-    bytes: [u8; 16],
-    ghost aligned: { base % 4 ≡ 0 },
-}
-
-impl CodeBus {
-    fn of(words: [u32; 4]) -> CodeBus {
-        let mut bytes = [0; 16];
-        LittleEndian::write_u32_into(&words, &mut bytes);
-        CodeBus { base: BASE, bytes }
-    }
-}
-
-impl Bus for CodeBus {
-    ghost use Rattle.std.specs.Prelude.{[], ◌∷◌};
-    ghost use Rattle.ad_core.specs.Image.{code_rights};
-    ghost use Rattle.ad_core.specs.Segments.{Code};
-
-    type Track = ();
-
-    ghost segments = { λ b. record { base = b.base; bytes = b.bytes; rights = code_rights; role = Code } ∷ [] };
-
-    ghost notes = { λ _. [] };
-
-    ghost queue = { λ _. [] };
-
-    ghost track = { λ _. record {} };
-
-    ghost rule = { λ track _. track };
-
-    #[tactic(auto, using(std::proofs::lemmas::Bool::Decides::nat_tests), unfolding(crate::specs::Segments::fetched))]
-    fn fetch(&mut self, at: u64) -> Fetched {
-        if at == GATE {
-            return Fetched::Gate;
-        }
-        if at / REGION_BYTES == 1 || at < self.base || at - self.base >= 16 {
-            return Fetched::Fault;
-        }
-        Fetched::Word(field_u32(&self.bytes, at - self.base))
-    }
-}
+use crate::call;
+use ad_base::{Args, End, FIRST_SERVICE, GATE, SERVICE_BYTES};
+use code_bus::{BASE, CodeBus};
 
 #[test]
 fn calls_end_as_the_standard_has_it(rt: HostRuntime) {
@@ -64,6 +17,12 @@ fn calls_end_as_the_standard_has_it(rt: HostRuntime) {
     const MULH: u32 = 0x02b5_1533;
     const MULHSU: u32 = 0x02b5_2533;
     const MULHU: u32 = 0x02b5_3533;
+    const LOAD: u32 = 0x0005_3503;
+    const STORE: u32 = 0x00b5_3023;
+    const JUMP_TO_A1: u32 = 0x0005_8067;
+    const K_IN_PAGE: u32 = 0x0004_02b7;
+    const JUMP_TO_K_IN: u32 = 0x0402_8067;
+    const SERVICE: u64 = FIRST_SERVICE;
     const MAX: u64 = u64::MAX;
     for (words, a0, a1, entry, fuel, want) in [
         ([ADD, RETURN, 0, 0], 2, 3, BASE, 100, End::Returned(5)),
@@ -113,6 +72,53 @@ fn calls_end_as_the_standard_has_it(rt: HostRuntime) {
         ([RETURN; 4], 6, 0, BASE + 2, 100, End::Misaligned),
         ([INCREMENT; 4], 6, 0, BASE, 100, End::Fault),
         ([RETURN; 4], 6, 0, GATE, 0, End::Returned(6)),
+        (
+            [LOAD, RETURN, 0, 0],
+            BASE,
+            0,
+            BASE,
+            100,
+            End::Returned(0x0000_8067_0005_3503),
+        ),
+        ([LOAD, RETURN, 0, 0], 0, 0, BASE, 100, End::Fault),
+        ([LOAD, RETURN, 0, 0], 4, 0, BASE, 100, End::Misaligned),
+        ([STORE, RETURN, 0, 0], BASE, 0, BASE, 100, End::Denied),
+        ([STORE, RETURN, 0, 0], 0, 0, BASE, 100, End::Fault),
+        (
+            [K_IN_PAGE, JUMP_TO_K_IN, 0, 0],
+            9,
+            0,
+            BASE,
+            100,
+            End::Returned(0),
+        ),
+        // A service is a step of its own.
+        ([JUMP_TO_A1; 4], 9, SERVICE, BASE, 1, End::Fuel),
+        ([JUMP_TO_A1; 4], 9, SERVICE, BASE, 2, End::Returned(9)),
+        (
+            [JUMP_TO_A1; 4],
+            9,
+            SERVICE + SERVICE_BYTES,
+            BASE,
+            100,
+            End::Abort(9),
+        ),
+        (
+            [JUMP_TO_A1; 4],
+            9,
+            SERVICE + 2 * SERVICE_BYTES,
+            BASE,
+            100,
+            End::Returned(1),
+        ),
+        (
+            [JUMP_TO_A1; 4],
+            9,
+            SERVICE + 4 * SERVICE_BYTES,
+            BASE,
+            100,
+            End::Fault,
+        ),
     ] {
         let mut bus = CodeBus::of(words);
         let mut args = Args::new();

@@ -3,7 +3,7 @@ use Rattle.std.proofs.Common.{◌≡◌, ◌%◌, inl, inr, Option, Some, None, 
 use Rattle.std.proofs.lemmas.Bool.{eq-eqb, leb-false, and_parts, cases_Bool, cond-false, cond-true, eqb-true, ltb-false, ltb-true, not-false, or_parts}
 use Rattle.ad_elf.specs.declared.elf.TheConstants.{FILE_HEADER_BYTES, SECTION_HEADER_BYTES, SHN_LORESERVE, RELA_BYTES, SHT_NOBITS, SHT_NULL, SHT_RELA, SHT_STRTAB, SHT_SYMTAB, ZERO_BYTES}
 use Rattle.ad_elf.specs.declared.table.SymbolTable.{SymbolTable}
-use Rattle.ad_elf.specs.Checked.{AreDirected, AreInFile, HasNames, HasTable, IsTable}
+use Rattle.ad_elf.specs.Private.Checked.{AreDirected, AreInFile, HasNames, HasTable, IsTable}
 use Rattle.ad_elf.specs.Fields.{header, names_number, section_count, table_at}
 use Rattle.ad_elf.specs.Refusals.{are_strings, first_unnamed, has_form, is_misdirected, lacks_symbols, is_out_of_bounds, is_too_long, lacks_table, stored_before, stored_size}
 use Rattle.ad_elf.specs.Below.{first}

@@ -6,7 +6,7 @@ use Rattle.std.proofs.lemmas.List.Elements.{All-append, All-nil}
 use Rattle.ad_elf.specs.declared.elf.TheConstants.{RELA_BYTES}
 use Rattle.ad_elf.specs.declared.object.Rela.{Rela}
 use Rattle.ad_elf.specs.Below.{each, joined}
-use Rattle.ad_elf.specs.Checked.{AreDirected}
+use Rattle.ad_elf.specs.Private.Checked.{AreDirected}
 use Rattle.ad_elf.specs.Fields.{header, section_count}
 use Rattle.ad_elf.specs.File.{has_kept_relas, kept_relas, rela, relas, relas_of}
 use Rattle.ad_elf.proofs.Tables.{has_kept_relas-typ, info_below}

@@ -1,8 +1,8 @@
-pub mod Fields
 pub mod Below
-pub mod Relocation
+pub mod Fields
 pub mod File
-pub mod Refusals
-pub mod Checked
+pub mod Private
 pub mod Range
+pub mod Refusals
+pub mod Relocation
 pub mod Worked

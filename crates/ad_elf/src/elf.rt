@@ -1,22 +1,22 @@
 //! Names and numbers of object files (gABI, "Object Files"; RISC-V ELF psABI).
 
 /// The first bytes of a file (gABI, "ELF Identification").
-pub(crate) const MAGIC: [u8; 4] = [0x7f, b'E', b'L', b'F'];
+pub const MAGIC: [u8; 4] = [0x7f, b'E', b'L', b'F'];
 
 /// The class of 64-bit objects (gABI, "ELF Identification").
-pub(crate) const ELFCLASS64: u8 = 2;
+pub const ELFCLASS64: u8 = 2;
 
 /// Numbers have the lowest byte first (gABI, "ELF Identification").
-pub(crate) const ELFDATA2LSB: u8 = 1;
+pub const ELFDATA2LSB: u8 = 1;
 
 /// The version of the format (gABI, "ELF Identification").
-pub(crate) const EV_CURRENT: u8 = 1;
+pub const EV_CURRENT: u8 = 1;
 
 /// A relocatable file (gABI, "ELF Header").
-pub(crate) const ET_REL: u16 = 1;
+pub const ET_REL: u16 = 1;
 
 /// The machine RISC-V (RISC-V ELF psABI, "File Header").
-pub(crate) const EM_RISCV: u16 = 243;
+pub const EM_RISCV: u16 = 243;
 
 /// The flag of a file whose accesses are in total store order (RISC-V ELF psABI, "File Header").
 pub(crate) const EF_RISCV_TSO: u32 = 0x10;

@@ -2,7 +2,7 @@
 
 ghost use Rattle.std.specs.Prelude.{◌≡◌, ◌+◌, ◌^◌, ◌<◌, ◌≤◌, length, nat_lt, IfNone};
 ghost use Rattle.std.specs.Bool.{OnFalse};
-ghost use Rattle.ad_elf.specs.Checked.{HasNames, HasTable};
+ghost use Rattle.ad_elf.specs.Private.Checked.{HasNames, HasTable};
 ghost use Rattle.ad_elf.specs.Refusals.{are_strings, first_row, has_other_flags, header_rows, is_other_class, lacks_magic, lacks_table};
 
 use crate::elf::{

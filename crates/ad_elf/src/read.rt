@@ -1,7 +1,7 @@
 //! A whole file is read: the rows one after another, and then what an object says.
 
 ghost use Rattle.std.specs.Prelude.{◌≡◌, ◌⊎◌, ◌+◌, ◌++◌, ◌<◌, ◌≤◌, None, Some, length, IsTrue, IfOk, IfErr, OnOk};
-ghost use Rattle.ad_elf.specs.Checked.{AreDirected, AreInFile, HasNames, HasTable, IsTable};
+ghost use Rattle.ad_elf.specs.Private.Checked.{AreDirected, AreInFile, HasNames, HasTable, IsTable};
 ghost use Rattle.ad_elf.specs.declared.refusal.ElfRefusal.TheVariants.{OutOfMemory as MemoryWanted};
 ghost use Rattle.ad_elf.specs.Fields.{header as header_of, section_count};
 ghost use Rattle.ad_elf.specs.File.{Says, is_stored, kept_section, section, section_names, sections};

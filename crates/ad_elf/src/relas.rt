@@ -2,7 +2,7 @@
 
 ghost use Rattle.std.specs.Prelude.{◌≡◌, ◌+◌, ◌*◌, ◌<◌, ◌≤◌, ◌++◌, ◌==◌, ◌&&◌, false, length, nat_le, find, All, IfOk, OnOk};
 ghost use Rattle.ad_elf.specs.Below.{first};
-ghost use Rattle.ad_elf.specs.Checked.{AreDirected, AreInFile, HasTable};
+ghost use Rattle.ad_elf.specs.Private.Checked.{AreDirected, AreInFile, HasTable};
 ghost use Rattle.ad_elf.specs.declared.refusal.ElfRefusal.TheVariants.{RelaOffset, RelaSymbol};
 ghost use Rattle.ad_elf.specs.Fields.{header, section_count};
 ghost use Rattle.ad_elf.specs.File.{has_kept_relas, is_part, kept_relas, rela, relas as all_relas, relas_of, section_names, symbol_count, table_number};

@@ -3,7 +3,7 @@
 
 ghost use Rattle.std.specs.Prelude.{◌≡◌, IfNone, not};
 ghost use Rattle.ad_elf.specs.Below.{first};
-ghost use Rattle.ad_elf.specs.Checked.{AreInFile, HasNames, HasTable};
+ghost use Rattle.ad_elf.specs.Private.Checked.{AreInFile, HasNames, HasTable};
 ghost use Rattle.ad_elf.specs.Fields.{header, section_count};
 ghost use Rattle.ad_elf.specs.File.{has_flag, has_string, is_frame, is_part, section_names};
 ghost use Rattle.ad_elf.specs.Refusals.{first_row, is_of_wrong_type, is_out_of_bounds, is_too_long, section_rows, stored_size};

@@ -2,7 +2,7 @@
 
 ghost use Rattle.std.specs.Prelude.{◌≡◌, ◌+◌, ◌*◌, ◌/◌, ◌<◌, ◌≤◌, length, is_none, IfOk, IfSome};
 ghost use Rattle.ad_elf.specs.Below.{first};
-ghost use Rattle.ad_elf.specs.Checked.{AreInFile, HasTable, IsTable};
+ghost use Rattle.ad_elf.specs.Private.Checked.{AreInFile, HasTable, IsTable};
 ghost use Rattle.ad_elf.specs.Fields.{header, section_count};
 ghost use Rattle.ad_elf.specs.File.{one_table, symbol, symbol_count, symbols, table_from};
 ghost use Rattle.ad_elf.specs.Refusals.{first_unnamed, has_form, is_astray, lacks_symbols, leaves_section};

@@ -1,7 +1,9 @@
-pub mod Fields
-pub mod Table
-pub mod Words
 pub mod Domain
+pub mod Fields
+pub mod Finish
 pub mod Numbers
 pub mod Rows
+pub mod Services
 pub mod Step
+pub mod Table
+pub mod Words

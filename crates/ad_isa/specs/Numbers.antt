@@ -1,5 +1,5 @@
 -- Arithmetic on numbers of 64 bits (unprivileged ISA, "RV64I", "M").
-use Rattle.std.specs.Prelude.{ℕ, ◌+◌, ◌-◌, ◌*◌, ◌/◌, ◌%◌, ◌^◌, Bool, not, Ok, ◌==◌, nat_lt, if◌then◌else◌, ℤ, pos, ◌*ℤ◌, bit_and, bit_or, bit_xor, int_lt, int_div, int_rem}
+use Rattle.std.specs.Prelude.{ℕ, ◌+◌, ◌-◌, ◌*◌, ◌/◌, ◌%◌, ◌^◌, Bool, not, Ok, ◌==◌, ◌&&◌, nat_le, nat_lt, if◌then◌else◌, ℤ, pos, ◌*ℤ◌, bit_and, bit_or, bit_xor, int_lt, int_div, int_rem}
 use Rattle.std.specs.Int.{cast_signed, cast_unsigned, int_shr, w32, w64, w128}
 use Rattle.ad_isa.specs.declared.instr.Alu.{Alu}
 use Rattle.ad_isa.specs.declared.instr.Alu.TheVariants.{Add, Sub, Sll, Slt, Sltu, Xor, Srl, Sra, Or, And, Mul, Mulh, Mulhsu, Mulhu, Div, Divu, Rem, Remu}
@@ -81,6 +81,10 @@ word_operation_on Divu a b = if low b == 0 then 2 ^ 64 - 1 else extended (low a 
 word_operation_on Rem a b = if low b == 0 then extended a else cast_unsigned w64 (int_rem (signed_low a) (signed_low b))
 word_operation_on Remu a b = if low b == 0 then extended a else extended (low a % low b)
 word_operation_on op a b = 0
+
+-- a number of so many bytes as one of 64 bits, with its sign or without
+abbrev pub widened : ℕ → Bool → ℕ → ℕ
+widened size signed n = if signed && nat_le (2 ^ (8 * size - 1)) n then n + (2 ^ 64 - 2 ^ (8 * size)) else n
 
 -- the domain of numbers, whose operations always answer
 abbrev pub numbers : Domain ℕ ⊥

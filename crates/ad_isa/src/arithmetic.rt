@@ -1,9 +1,9 @@
 //! Arithmetic on numbers of 64 bits (unprivileged ISA, "RV64I", "M").
 
-ghost use Rattle.std.specs.Prelude.{◌≡◌, true};
-ghost use Rattle.ad_isa.specs.Numbers.{extended, low, operation_on, signed_low, test_of, word_operation_on};
+ghost use Rattle.std.specs.Prelude.{◌≡◌, ◌<◌, ◌^◌, true};
+ghost use Rattle.ad_isa.specs.Numbers.{extended, low, operation_on, signed_low, test_of, widened, word_operation_on};
 ghost use Rattle.ad_isa.specs.declared.instr.Alu.{Alu};
-ghost use Rattle.ad_isa.specs.Words.{has_word_form};
+ghost use Rattle.ad_isa.specs.Words.{has_word_form, IsSize};
 
 use crate::instr::{Alu, Test};
 
@@ -30,6 +30,20 @@ pub fn operation(op: Alu, a: u64, b: u64) -> u64
         Alu::Divu => divide_unsigned(a, b),
         Alu::Rem => remainder(a, b),
         Alu::Remu => remainder_unsigned(a, b),
+    }
+}
+
+/// A number of so many bytes as one of 64 bits, with its sign or without.
+pub fn widen(size: u8, signed: bool, number: u64) -> u64
+    requires size { IsSize size }
+    requires fits { number < 256 ^ size }
+    ensures value { result ≡ widened size signed number }
+{
+    match size {
+        1 if signed => i64::from((number as u8).cast_signed()).cast_unsigned(),
+        2 if signed => i64::from((number as u16).cast_signed()).cast_unsigned(),
+        4 if signed => i64::from((number as u32).cast_signed()).cast_unsigned(),
+        _ => number,
     }
 }
 

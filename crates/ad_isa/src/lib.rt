@@ -8,7 +8,7 @@ mod instr;
 mod laws;
 mod table;
 
-pub use arithmetic::{holds, operation, word_operation};
+pub use arithmetic::{holds, operation, widen, word_operation};
 pub use instr::{Alu, Instr, Test};
 pub use laws::{law_table, law_worked_words};
 pub use table::decode;

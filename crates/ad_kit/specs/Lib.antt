@@ -1,0 +1,4 @@
+pub mod ObjectFile
+pub mod Writable
+pub mod Worked
+pub mod Private

@@ -13,10 +13,10 @@ use Rattle.ad_base.specs.Ledger.{Mapping}
 use Rattle.ad_base.specs.Place.{base_of}
 use Rattle.ad_call.specs.declared.call.Call.{Call}
 use Rattle.ad_call.specs.Call.{HasData, after_call, outcome_of}
-use Rattle.ad_core.specs.Plain.{at_start}
-use Rattle.ad_core.specs.Segments.{is_data, is_fixed_data}
-use Rattle.ad_core.specs.Turn.{export_offset, reached}
-use Rattle.ad_core.proofs.Sizes.{length-bytes_of_role, shaped}
+use Rattle.ad_base.specs.Segments.{is_data, is_fixed_data}
+use Rattle.ad_base.proofs.Extents.{length-bytes_of_role}
+use Rattle.ad_core.specs.Turn.{export_offset, memory_before, reached}
+use Rattle.ad_core.proofs.Stay.{called_extents}
 use Rattle.ad_lines.specs.declared.ready.ReadyStep.{ReadyStep}
 use Rattle.ad_lines.specs.LineLaws.{line_of}
 use Rattle.ad_lines.specs.LineRun.{ModuleState, RunState, after_move, line_run, move_end, place_after}
@@ -48,7 +48,7 @@ pub call-data : (image : Image) (fuel : ℕ) (book : Contents) (c : Call) (args 
 unfolding after_call outcome_of
 call-data image fuel book c args h =
     let segments = reached image book c.under c.stack in
-    let same = shaped fuel ((base_of c.under + export_offset image c.export) % 2 ^ 64) (base_of c.stack + STACK_PAGES * PAGE_BYTES) args (at_start segments [] book.device) in
+    let same = called_extents fuel ((base_of c.under + export_offset image c.export) % 2 ^ 64) (base_of c.stack + STACK_PAGES * PAGE_BYTES) args (memory_before image book c.under c.stack) in
     let after = (outcome_of image fuel book c args).memory.segments in
     record {
       movable = length-bytes_of_role is_data after segments same ∙ h.movable;

@@ -1,5 +1,5 @@
 -- Addresses whose mapping was unmapped: no later mapping has them, and no call finds anything there.
-use Rattle.std.proofs.Common.{◌≡◌, ◌⊎◌, ℕ, ◌+◌, ◌*◌, ◌/◌, ◌<◌, ◌≤◌, false, ◌==◌, List, [], ◌∷◌, ◌++◌, length, map, take, drop, slice_get, Some, None, inl, inr, refl, sym, ap, subst, ◌∙◌, append-nil, arith, length-drop, length-take}
+use Rattle.std.proofs.Common.{◌≡◌, ◌⊎◌, ℕ, ◌+◌, ◌*◌, ◌/◌, ◌%◌, ◌<◌, ◌≤◌, false, ◌==◌, List, [], ◌∷◌, ◌++◌, length, map, take, drop, slice_get, Some, None, Err, inl, inr, refl, sym, ap, subst, ◌∙◌, append-nil, arith, length-drop, length-take}
 use Rattle.std.specs.Prelude.{if◌then◌else◌}
 use Rattle.std.specs.List.{All}
 use Rattle.std.proofs.lemmas.Bool.{cases_lt, cond_both}
@@ -8,20 +8,22 @@ use Rattle.std.proofs.lemmas.List.{length-map}
 use Rattle.std.proofs.lemmas.List.Sums.{fold-append}
 use Rattle.std.proofs.lemmas.Option.{get_or_from_slice_get, slice_get_within}
 use Rattle.ad_base.specs.declared.image.Image.{Image}
-use Rattle.ad_base.specs.declared.layout.TheConstants.{GATE, PAGE_BYTES, REGION_BYTES, STACK_PAGES}
+use Rattle.ad_base.specs.declared.layout.TheConstants.{FETCH_BYTES, GATE, PAGE_BYTES, REGION_BYTES, STACK_PAGES}
 use Rattle.ad_base.specs.declared.ledger.Kind.{Kind}
 use Rattle.ad_base.specs.declared.ledger.Kind.TheVariants as kinds
 use Rattle.ad_base.specs.declared.ledger.Row.{Row}
 use Rattle.ad_base.specs.declared.place.Place.{Place}
 use Rattle.ad_base.specs.Ledger.{Mapping}
 use Rattle.ad_base.specs.Place.{IsInside, IsPlace, base_of}
+use Rattle.ad_base.specs.declared.end.End.TheVariants as ends
+use Rattle.ad_base.specs.Segments.{Fetch, Segment, Use, extents, holding, in_region_1, reach, service_number, with_right}
+use Rattle.ad_base.proofs.Extents.{holding-none}
 use Rattle.ad_call.specs.Call.{HasData}
-use Rattle.ad_call.proofs.Found.{holding-outside, total}
+use Rattle.ad_call.proofs.Outside.{nothing-outside}
 use Rattle.ad_core.specs.declared.bus.Fetched.TheVariants.{Fault, Gate}
-use Rattle.ad_core.specs.Image.{data_rights, fixed_pieces, laid_out, local_word, movable_pieces, segments_of, text_bytes}
-use Rattle.ad_core.specs.Segments.{Segment, Stack, fetched, holding, in_region_1, word_in}
-use Rattle.ad_core.proofs.Pages.{length-page_of_words}
-use Rattle.ad_core.proofs.Sizes.{holding-none, led, shapes}
+use Rattle.ad_core.specs.Image.{segments_of}
+use Rattle.ad_core.specs.Memory.{fetched, service_or, word_of}
+use Rattle.ad_core.proofs.Stay.{led}
 use Rattle.ad_lines.specs.declared.ready.ReadyStep.{ReadyStep}
 use Rattle.ad_lines.specs.LineRun.{ModuleState, Placement, after_step, line_run}
 use Rattle.ad_lines.specs.Opening.{AreLoaded, opening_drawn, opening_mappings, opening_run}
@@ -70,61 +72,39 @@ none-now : (opening : List Mapping) (p : Placement) → IsSoundPlacement opening
     → (kind : Kind) (who : ℕ) (x : Place) → IsCurrent p.rows kind who x → IsInside x at → ⊥
 none-now opening p s at none kind who x c inside = none c.at c.row c.found ((s.once c.at c.row c.found).never c.no_line) (subst (λ q. IsInside q at) (sym c.of_place) inside)
 
--- an address that is not inside is before or behind
-outside : (p : Place) (at size : ℕ) → (IsInside p at → ⊥) → size ≡ p.pages * 4096 → (at < base_of p) ⊎ (base_of p + size ≤ at)
-outside p at size none is = elim (cases_lt at (base_of p)) [
-  | inl before ↦ inl before
-  | inr from ↦ elim (cases_lt at (base_of p + p.pages * 4096)) [
-    | inl to ↦ absurd (none (record { from = from; to = to }))
-    | inr behind ↦ inr (omega (arith, behind, is))
-  ]
-]
-
-length-split : (t : ℕ) (xs : List ℕ) → length (take t xs) + length (drop t xs) ≡ length xs
-length-split t xs = let front = length-take t xs in let back = length-drop t xs in omega (arith, front, back)
-
-first-not : (bytes : List ℕ) (stack : Place) (at : ℕ) (rest : List Segment) → (at < base_of stack) ⊎ (base_of stack + length bytes ≤ at) → holding (record { base = base_of stack; bytes = bytes; rights = data_rights; role = Stack } ∷ rest) at ≡ holding rest at
-first-not bytes stack at rest (inl before) = grind (arith, nat_tests)
-first-not bytes stack at rest (inr behind) = grind (arith, nat_tests)
-
 -- so a call finds nothing there, whatever its stack and its data hold
-module _ (rows : List Row) (number worker at : ℕ) (m : ModuleState) (stack : Place) (bytes fixed_data writable : List ℕ) (full : length bytes ≡ STACK_PAGES * PAGE_BYTES) (long : HasData m.image writable fixed_data) (is : IsPlacedModule rows number m) (on : IsPlacedStack rows worker stack) (movable : IsInside m.movable at → ⊥) (fixed : IsInside m.image.fixed at → ⊥) (stack_out : IsInside stack at → ⊥) where
-  movable-size : total (movable_pieces m.image (base_of m.movable) writable) ≡ m.movable.pages * 4096
-  movable-size =
-      let w = is.whole in
-      let table = length-page_of_words m.image.table (omega (arith, w.table_fits)) in
-      let cells = length-page_of_words (map (local_word (base_of m.movable)) m.image.cells) (omega (arith, w.cells_fit, length-map m.image.cells (local_word (base_of m.movable)))) in
-      let code = length-split (text_bytes m.image.text_pages) m.image.code in
-      omega (arith, table, cells, code, w.code, w.writable, long.movable, is.pages)
+holds-none : (rows : List Row) (number worker at : ℕ) (m : ModuleState) (stack : Place) (bytes fixed_data writable : List ℕ) → length bytes ≡ STACK_PAGES * PAGE_BYTES → HasData m.image writable fixed_data
+    → IsPlacedModule rows number m → IsPlacedStack rows worker stack → (IsInside m.movable at → ⊥) → (IsInside m.image.fixed at → ⊥) → (IsInside stack at → ⊥)
+    → holding (segments_of m.image m.movable stack bytes fixed_data writable) at ≡ None
+holds-none rows number worker at m stack bytes fixed_data writable full long is on movable fixed stack_out =
+    nothing-outside m.image m.movable stack at bytes fixed_data writable is.whole full long is.pages on.pages stack_out fixed movable
 
-  fixed-size : total (fixed_pieces m.image fixed_data) ≡ m.image.fixed.pages * 4096
-  fixed-size =
-      let w = is.whole in
-      let table = length-page_of_words m.image.table (omega (arith, w.table_fits)) in
-      let code = length-split (text_bytes m.image.fixed_text_pages) m.image.fixed_code in
-      omega (arith, table, code, w.fixed_code, w.fixed_data, long.immovable, w.fixed_size)
+-- an address behind region 1 is no service's
+no-service : (at : ℕ) → 2 * REGION_BYTES < at → service_number at ≡ None
+no-service at high = grind (arith, nat_tests)
 
-  holds-none : holding (segments_of m.image m.movable stack bytes fixed_data writable) at ≡ None
-  holds-none =
-      let pieces = laid_out (base_of m.movable) (movable_pieces m.image (base_of m.movable) writable) in
-      let parts = holding-outside (fixed_pieces m.image fixed_data) (base_of m.image.fixed) at pieces (outside m.image.fixed at (total (fixed_pieces m.image fixed_data)) fixed fixed-size) in
-      let last = holding-outside (movable_pieces m.image (base_of m.movable) writable) (base_of m.movable) at [] (outside m.movable at (total (movable_pieces m.image (base_of m.movable) writable)) movable movable-size) in
-      let whole : holding (laid_out (base_of m.image.fixed) (fixed_pieces m.image fixed_data) ++ pieces) at ≡ None = parts ∙ ap (λ xs. holding xs at) (sym (append-nil pieces)) ∙ last in
-      first-not bytes stack at (laid_out (base_of m.image.fixed) (fixed_pieces m.image fixed_data) ++ pieces) (outside stack at (length bytes) stack_out (omega (arith, full, on.pages))) ∙ whole
+-- and each access where nothing lies, behind region 1, is a fault
+fault-reached : (at : ℕ) (memory : List (Segment ℕ)) → holding memory at ≡ None → (wanted : Use) (size : ℕ) → at % size ≡ 0 → reach wanted size memory at ≡ Err ends.Fault
+fault-reached at memory none wanted size aligned =
+    cond_both (at % size == 0) _ _ (λ x. x ≡ Err ends.Fault)
+    (λ e. cond_both (in_region_1 at) _ _ (λ x. x ≡ Err ends.Fault) (λ f. refl) (λ f. ap (with_right wanted) none))
+    (λ odd. absurd (grind (arith, nat_tests)))
 
--- and a fetch where nothing lies, behind region 1, is a fault
-fault-there : (at : ℕ) (memory : List Segment) → holding memory at ≡ None → 2 * REGION_BYTES < at → fetched memory at ≡ Fault
+fault-there : (at : ℕ) (memory : List (Segment ℕ)) → holding memory at ≡ None → 2 * REGION_BYTES < at → fetched memory at ≡ Fault
 unfolding fetched
 fault-there at memory none high =
     let gate : (at == GATE) ≡ false = elim (eqb_tells at GATE) [ inl e ↦ absurd (omega (arith, e.1, high)) | inr e ↦ e.0 ] in
-    (λ j. if gate j then Gate else (if in_region_1 at then Fault else word_in at (none j)))
-    ∙ cond_both (in_region_1 at) Fault Fault (λ x. x ≡ Fault) (λ e. refl) (λ e. refl)
+    (λ j. if gate j then Gate else service_or (no-service at high j) (word_of at (reach Fetch FETCH_BYTES memory at)))
+    ∙ cond_both (at % FETCH_BYTES == 0) (if in_region_1 at then Err ends.Fault else with_right Fetch (holding memory at)) (Err ends.Misaligned) (λ x. word_of at x ≡ Fault)
+    (λ e. cond_both (in_region_1 at) (Err ends.Fault) (with_right Fetch (holding memory at)) (λ x. word_of at x ≡ Fault) (λ f. refl) (λ f. ap (λ x. word_of at (with_right Fetch x)) none))
+    (λ odd. refl)
 
 -- so it is after steps, which leave each segment where it is
-fault-at-steps : (at : ℕ) (segments : List Segment) → holding segments at ≡ None → 2 * REGION_BYTES < at → IsFaultAtEachStep at segments
+fault-at-steps : (at : ℕ) (segments : List (Segment ℕ)) → holding segments at ≡ None → 2 * REGION_BYTES < at → IsFaultAtEachStep at segments
 fault-at-steps at segments none high steps first later before after same leads =
-    let shapes_stay = led steps first later before after leads ∙ ap shapes same in
-    fault-there at after.segments (holding-none at after.segments segments shapes_stay none) high
+    let stay = led steps first later before after leads ∙ ap extents same in
+    let nothing = holding-none at after.memory.segments segments stay none in
+    (fault-there at after.memory.segments nothing high, fault-reached at after.memory.segments nothing)
 
 module _ (seed workers fuel : ℕ) (images : List Image) (loaded : AreLoaded seed workers images) where
   pub grown-from : (steps : List ReadyStep) → All (λ s. 1 ≤ line_of s) steps → IsGrown (opening_mappings workers images (opening_drawn seed workers images).places) (opening_run workers images (opening_drawn seed workers images)).placement.rows (run_of_seed seed workers images fuel steps)

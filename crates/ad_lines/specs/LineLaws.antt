@@ -1,8 +1,9 @@
 -- Words of the laws of line runs.
-use Rattle.std.specs.Prelude.{◌≡◌, ℕ, ◌+◌, ◌*◌, ◌<◌, ◌≤◌, ◌↔◌, ◌==◌, ◌&&◌, if◌then◌else◌, List, [], ◌∷◌, fold, length, map, slice_get, All, unwrap_or}
+use Rattle.std.specs.Prelude.{◌≡◌, ℕ, ◌+◌, ◌*◌, ◌%◌, ◌<◌, ◌≤◌, ◌↔◌, ◌==◌, ◌&&◌, if◌then◌else◌, List, [], ◌∷◌, fold, length, map, slice_get, All, unwrap_or, Err}
 use Rattle.std.specs.List.{AllPairs, filter}
 use Rattle.std.specs.Option.{option_map_or}
 use Rattle.ad_base.specs.declared.book.Entry.{Entry}
+use Rattle.ad_base.specs.declared.end.End.TheVariants as ends
 use Rattle.ad_base.specs.declared.image.Image.{Image}
 use Rattle.ad_base.specs.declared.layout.TheConstants.{MAPPINGS, PAGE_BYTES, STACK_PAGES}
 use Rattle.ad_base.specs.declared.ledger.Kind.{Kind}
@@ -13,11 +14,12 @@ use Rattle.ad_base.specs.declared.ledger.Moved.{Moved}
 use Rattle.ad_base.specs.declared.place.Place.{Place}
 use Rattle.ad_base.specs.Image.{fixed_pages, movable_pages}
 use Rattle.ad_base.specs.Ledger.{is_made, is_same_kind, made_mapping, made_place}
+use Rattle.ad_base.specs.Segments.{Segment, Use, reach}
 use Rattle.ad_call.specs.Call.{HasData}
 use Rattle.ad_core.specs.declared.bus.Fetched.TheVariants.{Fault}
 use Rattle.ad_core.specs.Image.{segments_of}
-use Rattle.ad_core.specs.Plain.{Memory}
-use Rattle.ad_core.specs.Segments.{Segment, fetched}
+use Rattle.ad_core.specs.Memory.{fetched}
+use Rattle.ad_core.specs.Plain.{Tracked}
 use Rattle.ad_core.specs.Steps.{LeadsTo}
 use Rattle.ad_isa.specs.Step.{State}
 use Rattle.ad_lines.specs.declared.ready.ReadyStep.{ReadyStep}
@@ -100,11 +102,12 @@ last_place kind who first moves = fold (λ p (m : Moved). if is_same_kind kind m
 
 -- What holds of the memory of a call of an image at these places, whatever bytes its stack and its data hold: as many
 -- as a stack and the image's data have.
-abbrev pub InEachMemory : Image → Place → Place → (List Segment → Type 0) → Type 0
+abbrev pub InEachMemory : Image → Place → Place → (List (Segment ℕ) → Type 0) → Type 0
 InEachMemory image under stack P = (bytes fixed writable : List ℕ) → length bytes ≡ STACK_PAGES * PAGE_BYTES → HasData image writable fixed
     → P (segments_of image under stack bytes fixed writable)
 
--- whatever steps of the plain machine lead on from these segments, a fetch at the address is a fault then
-abbrev pub IsFaultAtEachStep : ℕ → List Segment → Type 0
-IsFaultAtEachStep at segments = (steps : ℕ) (first later : State ℕ) (before after : Memory) → before.segments ≡ segments → LeadsTo steps first before later after
-    → fetched after.segments at ≡ Fault
+-- Whatever steps of the plain machine lead on from these segments, each access at the address is a fault then: a fetch,
+-- and a load or a store of so many bytes that the address is a multiple of them.
+abbrev pub IsFaultAtEachStep : ℕ → List (Segment ℕ) → Type 0
+IsFaultAtEachStep at segments = (steps : ℕ) (first later : State ℕ) (before after : Tracked) → before.memory.segments ≡ segments → LeadsTo steps first before later after
+    → (fetched after.memory.segments at ≡ Fault) × ((wanted : Use) (size : ℕ) → at % size ≡ 0 → reach wanted size after.memory.segments at ≡ Err ends.Fault)

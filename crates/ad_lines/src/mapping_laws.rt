@@ -10,7 +10,7 @@ ghost use Rattle.ad_base.specs.declared.place.Place.{Place};
 ghost use Rattle.ad_base.specs.Ledger.{IsLedger, IsUnmappedOnce, made_mappings};
 ghost use Rattle.ad_base.specs.Place.{IsInside};
 ghost use Rattle.ad_call.specs.Call.{HasData};
-ghost use Rattle.ad_core.specs.Segments.{holding};
+ghost use Rattle.ad_base.specs.Segments.{holding};
 ghost use Rattle.ad_place.specs.Choice.{places_of};
 ghost use Rattle.ad_lines.specs.declared.ready.ReadyStep.{ReadyStep};
 ghost use Rattle.ad_lines.specs.LineRun.{ModuleState};
@@ -72,8 +72,8 @@ pub fn law_ledger()
 {}
 
 /// An address that leaked is stale once its mapping is unmapped: from then on it lies in no mapping of the run. In any
-/// later call of any module on any stack nothing lies there, and at each step of the call a fetch there is a fault,
-/// whatever bytes the stack and the data hold. The data have as many bytes as those of the image.
+/// later call of any module on any stack nothing lies there, and at each step of the call a fetch, a load or a store
+/// there is a fault, whatever bytes the stack and the data hold. The data have as many bytes as those of the image.
 pub fn law_stale_addresses()
     ensures apart { (seed workers fuel : ℕ) (images : List Image) (before after : List ReadyStep)
         → AreLoaded seed workers images → AreSteps images workers (before ++ after)

@@ -5,7 +5,7 @@ use Rattle.std.proofs.lemmas.Bool.{le-ltb}
 use Rattle.atomic_table.specs.Seated.{TableId}
 use Rattle.atomic_table.specs.Table.{Step, Allows, Splits, keeps}
 use Rattle.ad_base.specs.declared.place.Place.{Place}
-use Rattle.ad_base.specs.Place.{base_of, packed}
+use Rattle.ad_base.specs.Place.{base_of, packed, place_at}
 use Rattle.ad_maps.specs.declared.shape.Shape.{Shape}
 use Rattle.ad_maps.specs.declared.view.Act.TheVariants as act
 use Rattle.ad_maps.specs.declared.view.Stance.TheVariants as stance
@@ -16,7 +16,7 @@ use Rattle.ad_maps.specs.declared.view.Plan.{Plan}
 use Rattle.ad_maps.specs.declared.view.Doing.{Doing}
 use Rattle.ad_maps.specs.declared.view.Doing.TheVariants.{Worker, Mover}
 use Rattle.ad_maps.specs.Laws.{MayMap}
-use Rattle.ad_maps.specs.MapPlace.{place_at, cell_word, cells_of}
+use Rattle.ad_maps.specs.MapPlace.{cell_word, cells_of}
 use Rattle.ad_maps.specs.Names.{Owner}
 use Rattle.ad_maps.specs.Rule.{St, Kept, StageStands, IsTaken}
 use Rattle.ad_maps.specs.Steps.{Sat, hand, made, left_with, after_enter, after_read, after_act, after_leave, after_look, after_take, after_fill, after_map, after_switch, after_deal, given_off}

@@ -20,3 +20,6 @@ pub mod Opened
 pub mod NewSeats
 pub mod Ledgers
 pub mod Readings
+pub mod Numbering
+pub mod Joined
+pub mod Ended

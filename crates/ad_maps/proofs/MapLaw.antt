@@ -215,6 +215,7 @@ map_law shape s r id q g at taken =
       no_count = r.owing.no_count;
       each_listed = λ i b is. absurd (some≢none b (sym is ∙ r.no_batch.unlisted i));
       each_member = λ b i some. absurd (let t = r.owing.each_member b i some in some≢none b (sym t.1 ∙ r.no_batch.unlisted t.0));
+      each_line = r.owing.each_line;
     })
     (record { unopened = r.no_batch.unopened; unlisted = r.no_batch.unlisted })
     (ap (λ (gs : List Made). gs ++ g ∷ []) k.ledger_is ∙ (append_assoc (opened_from 0 shape.modules) (maps_in q.deeds) (g ∷ []) ∙ ap (λ (gs : List Made). opened_from 0 shape.modules ++ gs) (sym (maps-push q.deeds (deed.Map g.of_module g.place)))))

@@ -1,9 +1,11 @@
 -- What stays of the first half of the rule, and what the mover's seat knows.
 use Rattle.std.proofs.Common.{◌≡◌, ◌≢◌, ℕ, ◌<◌, ◌≤◌, List, [], ◌∷◌, ◌++◌, length, map as list_map, get_or, Some, refl, sym, ap, ◌∙◌, subst, arith}
+use Rattle.std.specs.List.{Contains}
 use Rattle.std.specs.FinMap as map
 use Rattle.std.proofs.lemmas.List.{append-nil, length-map, get_or_past}
 use mathlib.Core.Option.{some}
 use lib.ListN.{get_elem?}
+use Rattle.ad_base.specs.Layout.{local_word}
 use Rattle.ad_base.specs.declared.image.Cell.{Cell}
 use Rattle.ad_base.specs.declared.place.Place.{Place}
 use Rattle.ad_events.specs.declared.mapping.Status.{Status}
@@ -11,11 +13,12 @@ use Rattle.ad_events.specs.declared.mapping.Status.TheVariants.{Fresh, Current, 
 use Rattle.ad_events.specs.World.{mapping_of}
 use Rattle.ad_maps.specs.declared.shape.Shape.{Shape}
 use Rattle.ad_maps.specs.declared.view.Deed.{Deed}
+use Rattle.ad_maps.specs.declared.view.Hand.{Hand}
 use Rattle.ad_maps.specs.declared.view.Made.{Made}
 use Rattle.ad_maps.specs.declared.view.Plan.{Plan}
 use Rattle.ad_maps.specs.declared.view.Doing.TheVariants.{Mover}
 use Rattle.ad_maps.specs.Ledger.{opened_from, maps_in, all_made, line_in}
-use Rattle.ad_maps.specs.MapPlace.{cell_word, local_word}
+use Rattle.ad_maps.specs.MapPlace.{cell_word}
 use Rattle.ad_maps.specs.Rule.{St, Kept, IsMapped, WordsSay, Mappings}
 use Rattle.ad_maps.proofs.Elements.{maps-push}
 use Rattle.ad_maps.proofs.Machine.{holds_of}
@@ -45,6 +48,25 @@ mapped-says shape directory owner cell m p Gone apart h = absurd (apart refl)
 -- there is no word past the cells
 pub cell-past : (cells : List Cell) (base e : ℕ) → length cells ≤ e → cell_word cells base e ≡ 0
 cell-past cells base e l = get_or_past (list_map (local_word base) cells) e 0 (let same = length-map cells (local_word base) in omega arith)
+
+-- the mappings stand as they do, where the plan changes in its rooms, its list and its seats alone
+pub mappings-stay : (shape : Shape) (s : St) (r : Kept shape s) (q : Plan) → Mappings shape r.state.world.mappings r.places r.ledger q r.gives r.words.current r.words.directory r.words.owner r.words.cell
+    → (rooms : List ℕ) → ((f : ℕ) → Contains rooms f → r.words.owner f ≡ 0) → (dealt : ℕ) (deeds : List Deed) (back : List Hand)
+    → Mappings shape r.state.world.mappings r.places r.ledger (record q { rooms = rooms; dealt = dealt; deeds = deeds; back = back }) r.gives r.words.current r.words.directory r.words.owner r.words.cell
+mappings-stay shape s r q m rooms free dealt deeds back = record {
+  each = m.each;
+  each_made = m.each_made;
+  wide = m.wide;
+  each_current = m.each_current;
+  each_region = m.each_region;
+  each_owner = m.each_owner;
+  each_give = m.each_give;
+  past_cells = m.past_cells;
+  fresh = m.fresh;
+  outs = m.outs;
+  rooms = free;
+  stage = m.stage;
+}
 
 -- ---- what the mover's seat knows
 

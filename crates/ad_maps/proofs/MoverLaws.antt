@@ -22,7 +22,7 @@ use Rattle.ad_maps.specs.Rule.{St, Kept, HandStands, OwnerStands, IsToGive, Stag
 use Rattle.ad_maps.specs.Steps.{looking, taking, filling}
 use Rattle.ad_maps.proofs.Elements.{cons-cases, without-from, lines-push}
 use Rattle.ad_maps.proofs.Frames.{mover_step}
-use Rattle.ad_maps.proofs.MappingFrames.{words-stay, mover_knows, ledger-same}
+use Rattle.ad_maps.proofs.MappingFrames.{mappings-stay, words-stay, mover_knows, ledger-same}
 use Rattle.ad_maps.proofs.Numbers.{frame-few}
 use Rattle.ad_maps.proofs.Writes.{writes, rereads, row-here, row-column, row-else}
 
@@ -51,20 +51,7 @@ look_law shape s r id q f at few =
     (ap (λ (p : Plan). p.slots) k.is) (ap (λ (p : Plan). p.dealt) k.is) (ap (λ (p : Plan). p.back) k.is)
     (rereads s.words r.words i r.reads)
     r.reached
-    (record {
-      each = m.each;
-      each_made = m.each_made;
-      wide = m.wide;
-      each_current = m.each_current;
-      each_region = m.each_region;
-      each_owner = m.each_owner;
-      each_give = m.each_give;
-      past_cells = m.past_cells;
-      fresh = m.fresh;
-      outs = m.outs;
-      rooms = free;
-      stage = m.stage;
-    })
+    (mappings-stay shape s r q m q'.rooms free q.dealt q'.deeds q.back)
     r.owing
     r.no_batch
     (k.ledger_is ∙ sym (ledger-same shape q.deeds (deed.Look f found) refl))

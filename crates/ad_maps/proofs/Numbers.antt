@@ -1,29 +1,15 @@
 -- The words of places, and the frames of modules.
-use Rattle.std.proofs.Common.{◌≡◌, ◌≢◌, ◌↔◌, ℕ, ◌*◌, ◌/◌, ◌%◌, ◌^◌, ◌<◌, sym, ap, ◌∙◌, arith}
+use Rattle.std.proofs.Common.{◌≡◌, ◌↔◌, ℕ, ◌*◌, ◌/◌, ◌^◌, ◌<◌, sym, ap, ◌∙◌, arith}
 use Rattle.std.proofs.Math.Nat.{div-lt_iff_lt-mul}
 use Rattle.ad_base.specs.declared.place.Place.{Place}
-use Rattle.ad_base.specs.Place.{packed, IsPlace}
+use Rattle.ad_base.specs.Place.{packed, IsPlace, place_at}
 use Rattle.ad_maps.specs.declared.shape.Shape.{Shape}
-use Rattle.ad_maps.specs.MapPlace.{place_at, IsPlaceOf, IsShape}
-
--- a place's word says the place
-pub place_at-packed : (p : Place) → IsPlace p → place_at (packed p) ≡ p
-unfolding place_at
-place_at-packed p h =
-    let behind = h.page_behind in
-    let region : packed p % 2 ^ 16 ≡ p.region = omega arith in
-    let start : packed p / 2 ^ 16 % 2 ^ 10 ≡ p.start = omega arith in
-    let pages : packed p / 2 ^ 26 % 2 ^ 10 ≡ p.pages = omega arith in
-    let mapping : packed p / 2 ^ 36 % 2 ^ 12 ≡ p.mapping = omega arith in
-    let frame : packed p / 2 ^ 48 % 2 ^ 8 ≡ p.frame = omega arith in
-    λ i. record { region = region i; start = start i; pages = pages i; mapping = mapping i; frame = frame i }
+use Rattle.ad_maps.specs.MapPlace.{IsPlaceOf, IsShape}
+use Rattle.ad_base.proofs.Packing.{place_at-packed}
 
 -- places with one word are one place
 pub one_place : (p q : Place) → IsPlace p → IsPlace q → packed p ≡ packed q → p ≡ q
 one_place p q hp hq e = sym (place_at-packed p hp) ∙ (ap place_at e ∙ place_at-packed q hq)
-
-pub packed-some : (p : Place) → IsPlace p → packed p ≢ 0
-packed-some p h = λ e. let m = h.mapping_from in omega arith
 
 pub packed-small : (p : Place) → IsPlace p → packed p < 2 ^ 56
 packed-small p h = let a = h.page_behind in let b = h.frame_to in let c = h.mapping_to in let d = h.region_to in omega arith

@@ -194,6 +194,7 @@ module _ (shape : Shape) (form : IsShape shape) (xs : List ℕ) (laid : Laid sha
           no_count = λ b low. laid.laid.count b;
           each_listed = λ n b is. absurd (some≢none b (sym is));
           each_member = λ b k some_word. absurd (some_word (laid.laid.member b k));
+          each_line = λ n is. refl;
         };
         no_batch = record { unopened = refl; unlisted = λ n. refl };
         ledger_is = refl;

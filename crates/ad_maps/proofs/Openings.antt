@@ -3,14 +3,15 @@ use Rattle.std.proofs.Common.{◌≡◌, ◌≢◌, ⊎_elim, inl, inr, ℕ, ◌
 use Rattle.std.specs.List.{All}
 use Rattle.std.proofs.Math.Nat.{mul-div_cancel, mul-le-mul}
 use Rattle.std.proofs.lemmas.Bool.{cases_eq, cases_lt}
+use Rattle.ad_base.specs.Layout.{local_word}
 use Rattle.ad_base.specs.declared.image.Cell.{Cell as CellState}
 use Rattle.std.proofs.lemmas.List.{get_or-map}
 use Rattle.ad_base.specs.Place.{base_of, packed}
 use Rattle.ad_events.proofs.Functions.{changed-here, changed-else}
 use Rattle.ad_maps.specs.declared.shape.Shape.{Shape}
-use Rattle.ad_maps.specs.MapPlace.{cells_of, cell_word, local_word, module_of_frame, IsShape}
-use Rattle.ad_maps.specs.Names.{Name, Slot, Current as CurrentWord, Directory, Owner, Cell, Count, Member, index, IsName, read, wrote}
-use Rattle.ad_maps.specs.Private.Laid.{place_of_module, Laying, Laid}
+use Rattle.ad_maps.specs.MapPlace.{cells_of, cell_word, module_of_frame, IsShape}
+use Rattle.ad_maps.specs.Names.{Name, Slot, Current as CurrentWord, Directory, Owner, Cell, Count, Member, index, IsName, read, wrote, Words}
+use Rattle.ad_maps.specs.Private.Laid.{place_of_module, Laying, Laid, LaidBy}
 use Rattle.ad_maps.proofs.MappingFrames.{cell-past}
 use Rattle.ad_maps.proofs.Writes.{writes, row-here, row-column, row-else}
 
@@ -87,6 +88,25 @@ module _ (shape : Shape) (form : IsShape shape) where
         };
       }
 
+  -- the words are laid so with other cells
+  with_cells : (k c e c' e' : ℕ) (ws : Words) (cell : ℕ → ℕ → ℕ) → LaidBy shape k c e ws
+      → ((m : ℕ) → m < c' → (i : ℕ) → cell (place_of_module shape m).frame i ≡ cell_word (cells_of shape m) (base_of (place_of_module shape m)) i)
+      → ((i : ℕ) → i < e' → cell (place_of_module shape c').frame i ≡ cell_word (cells_of shape c') (base_of (place_of_module shape c')) i)
+      → ((f i : ℕ) → length (cells_of shape (module_of_frame shape f)) ≤ i → cell f i ≡ 0) → LaidBy shape k c' e' (record ws { cell = cell })
+  with_cells k c e c' e' ws cell old cells part past = record {
+    slot = old.slot;
+    count = old.count;
+    member = old.member;
+    current = old.current;
+    directory = old.directory;
+    region = old.region;
+    owner = old.owner;
+    owned = old.owned;
+    cells = cells;
+    part = part;
+    past = past;
+  }
+
   -- one cell more of the next module
   pub lay_cell : (k e : ℕ) (xs : List ℕ) (x : ℕ) → k < length shape.modules → e < length (cells_of shape k) → x ≡ cell_word (cells_of shape k) (base_of (place_of_module shape k)) e → Laying shape (k + 1) k e xs
       → Laying shape (k + 1) k (e + 1) (set xs (65688 + (512 * (place_of_module shape k).frame + e)) x)
@@ -98,31 +118,22 @@ module _ (shape : Shape) (form : IsShape shape) where
       let few = (form.each k low).few_cells in record {
         words = wrote ws (Cell f e) x;
         are = writes xs ws (Cell f e) x (frame-low k low, (let b : e < 512 = omega arith in b)) l.are;
-        laid = record {
-          slot = old.slot;
-          count = old.count;
-          member = old.member;
-          current = old.current;
-          directory = old.directory;
-          region = old.region;
-          owner = old.owner;
-          owned = old.owned;
-          cells = λ m b i. row-else ws.cell f e x (place_of_module shape m).frame i (frames-apart m k (omega arith) low (λ z. omega arith)) ∙ old.cells m b i;
-          part = λ i b.
-              elim (cases_eq i e) [
-                | inl here ↦ row-here ws.cell f e x f i refl here ∙ (is ∙ ap (cell_word (cells_of shape k) (base_of p)) (sym here))
-                | inr else ↦ row-column ws.cell f e x f i else ∙ old.part i (omega arith)
-              ];
-          past = λ h i far.
-              elim (cases_eq h f) [
-                | inl here ↦
-                    elim (cases_eq i e) [
-                      | inl there ↦ absurd (let of = ap (module_of_frame shape) here ∙ frame-of k low in let long = ap (λ (j : ℕ). length (cells_of shape j)) of in omega arith)
-                      | inr else ↦ row-column ws.cell f e x h i else ∙ old.past h i far
-                    ]
-                | inr else ↦ row-else ws.cell f e x h i else ∙ old.past h i far
-              ];
-        };
+        laid = with_cells (k + 1) k e k (e + 1) ws (wrote ws (Cell f e) x).cell old
+            (λ m b i. row-else ws.cell f e x (place_of_module shape m).frame i (frames-apart m k (omega arith) low (λ z. omega arith)) ∙ old.cells m b i)
+            (λ i b.
+            elim (cases_eq i e) [
+              | inl here ↦ row-here ws.cell f e x f i refl here ∙ (is ∙ ap (cell_word (cells_of shape k) (base_of p)) (sym here))
+              | inr else ↦ row-column ws.cell f e x f i else ∙ old.part i (omega arith)
+            ])
+            (λ h i far.
+            elim (cases_eq h f) [
+              | inl here ↦
+                  elim (cases_eq i e) [
+                    | inl there ↦ absurd (let of = ap (module_of_frame shape) here ∙ frame-of k low in let long = ap (λ (j : ℕ). length (cells_of shape j)) of in omega arith)
+                    | inr else ↦ row-column ws.cell f e x h i else ∙ old.past h i far
+                  ]
+              | inr else ↦ row-else ws.cell f e x h i else ∙ old.past h i far
+            ]);
       }
 
   -- the next module is laid
@@ -132,23 +143,14 @@ module _ (shape : Shape) (form : IsShape shape) where
       let p = place_of_module shape k in record {
         words = l.words;
         are = l.are;
-        laid = record {
-          slot = old.slot;
-          count = old.count;
-          member = old.member;
-          current = old.current;
-          directory = old.directory;
-          region = old.region;
-          owner = old.owner;
-          owned = old.owned;
-          cells = λ m b i.
-              elim (cases_eq m k) [
-                | inl same ↦ subst (λ (j : ℕ). l.words.cell (place_of_module shape j).frame i ≡ cell_word (cells_of shape j) (base_of (place_of_module shape j)) i) (sym same) (by_cell i)
-                | inr ne ↦ old.cells m (omega arith) i
-              ];
-          part = λ i b. absurd (omega arith);
-          past = old.past;
-        };
+        laid = with_cells (k + 1) k e (k + 1) 0 l.words l.words.cell old
+            (λ m b i.
+            elim (cases_eq m k) [
+              | inl same ↦ subst (λ (j : ℕ). l.words.cell (place_of_module shape j).frame i ≡ cell_word (cells_of shape j) (base_of (place_of_module shape j)) i) (sym same) (by_cell i)
+              | inr ne ↦ old.cells m (omega arith) i
+            ])
+            (λ i b. absurd (omega arith))
+            old.past;
       }
     where
       by_cell : (i : ℕ) → l.words.cell (place_of_module shape k).frame i ≡ cell_word (cells_of shape k) (base_of (place_of_module shape k)) i

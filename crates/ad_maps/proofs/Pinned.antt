@@ -21,7 +21,8 @@ use Rattle.ad_maps.specs.Rule.{St, Kept, IsAs, IsMapped, WordsSay}
 use Rattle.ad_maps.specs.Steps.{hand, made}
 use Rattle.ad_maps.proofs.Frames.{worker_knows}
 use Rattle.ad_maps.proofs.Machine.{holds_of}
-use Rattle.ad_maps.proofs.Numbers.{one_place, packed-some, packed-small, frame-few, region-few}
+use Rattle.ad_base.proofs.Packing.{packed-some}
+use Rattle.ad_maps.proofs.Numbers.{one_place, packed-small, frame-few, region-few}
 
 -- a mapping is Gone, with its one unmap step, or in the directory
 pub gone-or : (shape : Shape) (directory owner : ℕ → ℕ) (cell : ℕ → ℕ → ℕ) (m : ℕ) (p : Place) (s : Status) → WordsSay shape directory owner cell m p s

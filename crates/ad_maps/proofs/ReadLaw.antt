@@ -8,7 +8,7 @@ use Rattle.std.proofs.lemmas.List.Elements.{Contains-push_cases}
 use mathlib.Core.Option.{some}
 use lib.ListN.{get_elem?}
 use Rattle.ad_base.specs.declared.place.Place.{Place}
-use Rattle.ad_base.specs.Place.{packed}
+use Rattle.ad_base.specs.Place.{packed, place_at}
 use Rattle.ad_events.specs.declared.mapping.Status.TheVariants.{Current}
 use Rattle.ad_events.specs.World.{mapping_of}
 use Rattle.ad_events.specs.Reclaim as machine
@@ -21,7 +21,7 @@ use Rattle.ad_maps.specs.declared.view.Hand.{Hand}
 use Rattle.ad_maps.specs.declared.view.Doing.TheVariants.{Worker}
 use Rattle.ad_maps.specs.Laws.{Adds, ReadLaw}
 use Rattle.ad_maps.specs.Ledger.{reads_of, NeverFall}
-use Rattle.ad_maps.specs.MapPlace.{place_at, IsPlaceOf}
+use Rattle.ad_maps.specs.MapPlace.{IsPlaceOf}
 use Rattle.ad_maps.specs.Names.{Current as CurrentWord}
 use Rattle.ad_maps.specs.Rule.{St, Kept, IsAs, ReadStands}
 use Rattle.ad_maps.specs.Steps.{hand, made}
@@ -29,7 +29,7 @@ use Rattle.ad_maps.proofs.Elements.{reads-push, reads-bound, falls-push}
 use Rattle.ad_maps.proofs.Frames.{worker_knows, worker_step}
 use Rattle.ad_maps.proofs.Hands.{hand_stays}
 use Rattle.ad_maps.proofs.Machine.{reached_after, lawful_of}
-use Rattle.ad_maps.proofs.Numbers.{place_at-packed}
+use Rattle.ad_base.proofs.Packing.{place_at-packed}
 use Rattle.ad_maps.proofs.Writes.{rereads}
 
 -- what the word of a module's current mapping says

@@ -7,6 +7,7 @@ use Rattle.std.proofs.lemmas.Bool.{cases_lt}
 use mathlib.Core.Option.{some}
 use lib.ListN.{get_elem?}
 use Rattle.ad_base.specs.declared.place.Place.{Place}
+use Rattle.ad_base.specs.Place.{place_at}
 use Rattle.ad_events.specs.declared.mapping.Mapping.{Mapping}
 use Rattle.ad_events.specs.World.{IsWorld}
 use Rattle.ad_events.specs.Owed as owing
@@ -19,7 +20,6 @@ use Rattle.ad_maps.specs.declared.view.Stance.{Stance}
 use Rattle.ad_maps.specs.declared.view.Stance.TheVariants as stance
 use Rattle.ad_maps.specs.declared.view.Hand.{Hand}
 use Rattle.ad_maps.specs.declared.view.Doing.TheVariants.{Worker}
-use Rattle.ad_maps.specs.MapPlace.{place_at}
 use Rattle.ad_maps.specs.Names.{Slot, Directory}
 use Rattle.ad_maps.specs.Reading.{IsAtStance, DirectorySays, ReadingLaw}
 use Rattle.ad_maps.specs.Rule.{St, Kept, StanceStands, seat_of}

@@ -10,11 +10,13 @@ use Rattle.ad_maps.specs.declared.shape.Shape.{Shape}
 use Rattle.ad_maps.specs.declared.view.Stance.TheVariants as stance
 use Rattle.ad_maps.specs.declared.view.Hand.{Hand}
 use Rattle.ad_maps.specs.declared.view.Plan.{Plan}
-use Rattle.ad_maps.specs.declared.view.Doing.TheVariants.{Worker, Mover}
-use Rattle.ad_maps.specs.Laws.{SplitLaw, JoinLaw}
+use Rattle.ad_maps.specs.declared.view.Doing.{Doing}
+use Rattle.ad_maps.specs.declared.view.Doing.TheVariants.{Spent, Worker, Mover}
+use Rattle.ad_maps.specs.Laws.{SplitLaw, JoinLaw, Stays}
 use Rattle.ad_maps.specs.Ledger.{all_made, line_in}
 use Rattle.ad_maps.specs.Rule.{St, Kept, Mappings, HandStands, Seated, Dealt}
 use Rattle.ad_maps.specs.Steps.{hand, new_hand, dealing, gathering}
+use Rattle.ad_maps.proofs.MappingFrames.{mappings-stay}
 use Rattle.ad_maps.proofs.Seats.{AllKnow, mover_splits, mover_joins, split_sits, join_sits}
 
 -- what the mover's seat knows of the seats
@@ -30,21 +32,37 @@ seats_known shape s r id q at =
     let k = r.each_seat id (Mover q) at in
     subst (SeatsKnown shape s r id) (sym k.0) (record { mine = k.1; is = refl; know = r.each_seat; seated = r.seated; dealt = r.dealt })
 
--- the mappings stand as they do, where the plan changes in its seats alone
-mappings_of : (shape : Shape) (s : St) (r : Kept shape s) (dealt : ℕ) (back : List Hand) → Mappings shape r.state.world.mappings r.places r.ledger (record r.plan { dealt = dealt; back = back }) r.gives r.words.current r.words.directory r.words.owner r.words.cell
-mappings_of shape s r dealt back = let m = r.mappings in record {
-  each = m.each;
-  each_made = m.each_made;
-  wide = m.wide;
-  each_current = m.each_current;
-  each_region = m.each_region;
-  each_owner = m.each_owner;
-  each_give = m.each_give;
-  past_cells = m.past_cells;
-  fresh = m.fresh;
-  outs = m.outs;
-  rooms = m.rooms;
-  stage = m.stage;
+-- the rule holds with other seats: other views, and a plan that differs in what it says of the seats
+with_seats : (shape : Shape) (s : St) (r : Kept shape s) (views : List Doing) (seater : ℕ → ℕ) (dealt : ℕ) (back : List Hand) (q : Plan) → record r.plan { dealt = dealt; back = back } ≡ q
+    → AllKnow r.hands seater q r.mover views → Seated r.hands seater q r.mover views → Dealt shape r.hands q → Stays shape s r (record { words = s.words; homes = s.homes; views = views })
+with_seats shape s r views seater dealt back q same know seated dealt_is = record {
+  kept = record {
+    words = r.words;
+    state = r.state;
+    places = r.places;
+    ledger = r.ledger;
+    lines = r.lines;
+    gives = r.gives;
+    hands = r.hands;
+    seater = seater;
+    plan = q;
+    mover = r.mover;
+    form = r.form;
+    reads = r.reads;
+    reached = r.reached;
+    mappings = subst (λ (p : Plan). Mappings shape r.state.world.mappings r.places r.ledger p r.gives r.words.current r.words.directory r.words.owner r.words.cell) same
+        (mappings-stay shape s r r.plan r.mappings r.plan.rooms r.mappings.rooms dealt r.plan.deeds back);
+    owing = r.owing;
+    no_batch = r.no_batch;
+    ledger_is = r.ledger_is ∙ ap (λ (p : Plan). all_made shape p.deeds) same;
+    lines_are = λ i. r.lines_are i ∙ ap (λ (p : Plan). line_in p.deeds i) same;
+    each_stance = r.each_stance;
+    each_hand = λ v. subst (λ (p : Plan). HandStands shape r.state.world r.places r.ledger p.current r.gives v (r.hands v)) same (r.each_hand v);
+    each_seat = know;
+    seated = seated;
+    dealt = dealt_is;
+  };
+  state = refl;
 }
 
 pub split_law : SplitLaw
@@ -55,36 +73,12 @@ split_law shape s r id q at inside none =
     let n = length (set s.views id (Mover q')) in
     let seater' : ℕ → ℕ = changed r.seater w n in
     let free : new_hand (w % q.slots) ≡ r.hands w = ap (λ (i : ℕ). new_hand (w % i)) k.dealt.slots ∙ sym (k.dealt.undealt w (omega arith)) in
-    let same : dealing r.plan ≡ q' = ap dealing (sym k.is) in record {
-      kept = record {
-        words = r.words;
-        state = r.state;
-        places = r.places;
-        ledger = r.ledger;
-        lines = r.lines;
-        gives = r.gives;
-        hands = r.hands;
-        seater = seater';
-        plan = q';
-        mover = r.mover;
-        form = r.form;
-        reads = r.reads;
-        reached = r.reached;
-        mappings = subst (λ (p : Plan). Mappings shape r.state.world.mappings r.places r.ledger p r.gives r.words.current r.words.directory r.words.owner r.words.cell) same (mappings_of shape s r (r.plan.dealt + 1) r.plan.back);
-        owing = r.owing;
-        no_batch = r.no_batch;
-        ledger_is = r.ledger_is ∙ ap (λ (p : Plan). all_made shape p.deeds) (sym k.is);
-        lines_are = λ i. r.lines_are i ∙ ap (λ (p : Plan). line_in p.deeds i) (sym k.is);
-        each_stance = r.each_stance;
-        each_hand = λ v. subst (λ (p : Plan). HandStands shape r.state.world r.places r.ledger p.current r.gives v (r.hands v)) (sym k.is) (r.each_hand v);
-        each_seat = mover_splits r.hands r.seater q r.mover s.views k.know seater' q' id w (new_hand (w % q.slots)) k.mine refl refl refl (let l = ap length none in omega arith)
-            (λ v l. changed-else r.seater w n v (λ e. omega arith)) (changed-here r.seater w n w refl) free;
-        seated = split_sits r.hands r.seater q r.mover s.views k.seated seater' q' id w (new_hand (w % q.slots)) k.mine refl refl refl
-            (λ v l. changed-else r.seater w n v (λ e. omega arith)) (changed-here r.seater w n w refl) free;
-        dealt = record { slots = k.dealt.slots; few = omega arith; undealt = λ v l. k.dealt.undealt v (omega arith); back = k.dealt.back };
-      };
-      state = refl;
-    }
+    with_seats shape s r (set s.views id (Mover q') ++ Worker w (new_hand (w % q.slots)) ∷ []) seater' (r.plan.dealt + 1) r.plan.back q' (ap dealing (sym k.is))
+    (mover_splits r.hands r.seater q r.mover s.views k.know seater' q' id w (new_hand (w % q.slots)) k.mine refl refl refl (let l = ap length none in omega arith)
+    (λ v l. changed-else r.seater w n v (λ e. omega arith)) (changed-here r.seater w n w refl) free)
+    (split_sits r.hands r.seater q r.mover s.views k.seated seater' q' id w (new_hand (w % q.slots)) k.mine refl refl refl
+    (λ v l. changed-else r.seater w n v (λ e. omega arith)) (changed-here r.seater w n w refl) free)
+    (record { slots = k.dealt.slots; few = omega arith; undealt = λ v l. k.dealt.undealt v (omega arith); back = k.dealt.back })
 
 pub join_law : JoinLaw
 join_law shape s r id q other w slot gives acts at apart there next =
@@ -93,42 +87,18 @@ join_law shape s r id q other w slot gives acts at apart there next =
     let theirs = k.know other (Worker w h) there in
     let q' : Plan = gathering q h in
     let long = length-append q.back (h ∷ []) in
-    let same : gathering r.plan h ≡ q' = ap (λ (p : Plan). gathering p h) (sym k.is) in record {
-      kept = record {
-        words = r.words;
-        state = r.state;
-        places = r.places;
-        ledger = r.ledger;
-        lines = r.lines;
-        gives = r.gives;
-        hands = r.hands;
-        seater = r.seater;
-        plan = q';
-        mover = r.mover;
-        form = r.form;
-        reads = r.reads;
-        reached = r.reached;
-        mappings = subst (λ (p : Plan). Mappings shape r.state.world.mappings r.places r.ledger p r.gives r.words.current r.words.directory r.words.owner r.words.cell) same (mappings_of shape s r r.plan.dealt (r.plan.back ++ h ∷ []));
-        owing = r.owing;
-        no_batch = r.no_batch;
-        ledger_is = r.ledger_is ∙ ap (λ (p : Plan). all_made shape p.deeds) (sym k.is);
-        lines_are = λ i. r.lines_are i ∙ ap (λ (p : Plan). line_in p.deeds i) (sym k.is);
-        each_stance = r.each_stance;
-        each_hand = λ v. subst (λ (p : Plan). HandStands shape r.state.world r.places r.ledger p.current r.gives v (r.hands v)) (sym k.is) (r.each_hand v);
-        each_seat = mover_joins r.hands r.seater q r.mover s.views k.know q' id other w h k.mine there next refl (omega arith);
-        seated = join_sits r.hands r.seater q r.mover s.views k.seated q' id other w h k.mine apart there next refl (omega arith);
-        dealt = record {
-          slots = k.dealt.slots;
-          few = k.dealt.few;
-          undealt = k.dealt.undealt;
-          back = λ v l.
-              elim (cases_eq v (length q.back)) [
-                | inl e ↦
-                    let is : r.hands v ≡ h = ap r.hands (e ∙ sym next) ∙ sym theirs.3 in
-                    (ap (λ (g : Hand). g.stance) is, ap (λ (i : ℕ). get_elem? (q.back ++ h ∷ []) i) e ∙ (at_last q.back h (length q.back) refl ∙ ap some (sym is)))
-                | inr ne ↦ let b = k.dealt.back v (omega arith) in (b.0, at_longer q.back (h ∷ []) v (r.hands v) b.1)
-              ];
-        };
-      };
-      state = refl;
-    }
+    with_seats shape s r (set (set s.views id (Mover q')) other Spent) r.seater r.plan.dealt (r.plan.back ++ h ∷ []) q' (ap (λ (p : Plan). gathering p h) (sym k.is))
+    (mover_joins r.hands r.seater q r.mover s.views k.know q' id other w h k.mine there next refl (omega arith))
+    (join_sits r.hands r.seater q r.mover s.views k.seated q' id other w h k.mine apart there next refl (omega arith))
+    (record {
+      slots = k.dealt.slots;
+      few = k.dealt.few;
+      undealt = k.dealt.undealt;
+      back = λ v l.
+          elim (cases_eq v (length q.back)) [
+            | inl e ↦
+                let is : r.hands v ≡ h = ap r.hands (e ∙ sym next) ∙ sym theirs.3 in
+                (ap (λ (g : Hand). g.stance) is, ap (λ (i : ℕ). get_elem? (q.back ++ h ∷ []) i) e ∙ (at_last q.back h (length q.back) refl ∙ ap some (sym is)))
+            | inr ne ↦ let b = k.dealt.back v (omega arith) in (b.0, at_longer q.back (h ∷ []) v (r.hands v) b.1)
+          ];
+    })

@@ -8,7 +8,7 @@ use Rattle.std.proofs.lemmas.Bool.{cases_Bool, cases_eq, and_parts}
 use Rattle.std.proofs.lemmas.List.{get_or-set_same, get_or-set_other}
 use Rattle.std.proofs.lemmas.List.Elements.{Contains-append_left, Contains-push, Contains-push_cases}
 use Rattle.ad_base.specs.declared.place.Place.{Place}
-use Rattle.ad_base.specs.Place.{packed}
+use Rattle.ad_base.specs.Place.{packed, place_at}
 use Rattle.ad_events.specs.declared.mapping.Status.{Status}
 use Rattle.ad_events.specs.declared.mapping.Status.TheVariants.{Fresh, Current, Out, Gone}
 use Rattle.ad_events.specs.declared.mapping.Mapping.{Mapping}
@@ -25,7 +25,6 @@ use Rattle.ad_maps.specs.declared.view.Made.{Made}
 use Rattle.ad_maps.specs.declared.view.Plan.{Plan}
 use Rattle.ad_maps.specs.declared.view.Doing.TheVariants.{Mover}
 use Rattle.ad_maps.specs.Laws.{Adds, SwitchLaw}
-use Rattle.ad_maps.specs.MapPlace.{place_at}
 use Rattle.ad_maps.specs.Names.{Current as CurrentWord, wrote}
 use Rattle.ad_maps.specs.Rule.{St, Kept, AllMappings, IsAs, IsMapped, MappingStands, Mappings, OwnerStands, RegionStands, GiveStands, IsToGive, AreAll, CurrentStands}
 use Rattle.ad_maps.specs.Steps.{made, but}

@@ -81,6 +81,7 @@ slot_changed shape s r owed slot x slots seats batches last here else = record {
   no_count = λ b l. r.owing.no_count b (omega arith);
   each_listed = r.owing.each_listed;
   each_member = r.owing.each_member;
+  each_line = r.owing.each_line;
 }
 
 -- ---- enter

@@ -6,7 +6,7 @@ use lib.ListN.{get_elem?}
 use Rattle.atomic_table.specs.Table.{keeps, stepped}
 use Rattle.ad_base.specs.declared.layout.TheConstants.{REGION_BYTES, REGIONS}
 use Rattle.ad_base.specs.declared.place.Place.{Place}
-use Rattle.ad_base.specs.Place.{base_of, packed, IsPlace}
+use Rattle.ad_base.specs.Place.{base_of, packed, IsPlace, place_at}
 use Rattle.ad_events.specs.Reclaim as machine
 use Rattle.ad_events.specs.ReclaimLaws.{LawfulIfSome}
 use Rattle.ad_maps.specs.declared.shape.Shape.{Shape}
@@ -20,7 +20,7 @@ use Rattle.ad_maps.specs.declared.view.Plan.{Plan}
 use Rattle.ad_maps.specs.declared.view.Doing.{Doing}
 use Rattle.ad_maps.specs.declared.view.Doing.TheVariants.{Spent, Worker, Mover}
 use Rattle.ad_maps.specs.Names.{Name, Slot, Current, Directory, Owner, Cell, index}
-use Rattle.ad_maps.specs.MapPlace.{place_at, cell_word, cells_of, IsPlaceOf}
+use Rattle.ad_maps.specs.MapPlace.{cell_word, cells_of, IsPlaceOf}
 use Rattle.ad_maps.specs.Ledger.{all_made}
 use Rattle.ad_maps.specs.Rule.{St, Kept}
 use Rattle.ad_maps.specs.Steps.{hand, new_hand, after_enter, after_read, after_act, after_leave, after_look, after_take, after_fill, after_map, after_switch, dealing, gathering}

@@ -5,5 +5,6 @@ pub mod Ledger
 pub mod Rule
 pub mod Laws
 pub mod Seen
+pub mod Rows
 pub mod Private
 pub mod Reading

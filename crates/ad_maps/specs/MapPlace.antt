@@ -1,22 +1,12 @@
 -- Where mappings lie, what a table is opened with, and what the words hold of it.
-use Rattle.std.specs.Prelude.{◌≡◌, ◌≢◌, ℕ, ◌+◌, ◌*◌, ◌/◌, ◌%◌, ◌^◌, ◌<◌, ◌≤◌, List, [], map, length, slice_index, slice_index_or}
+use Rattle.std.specs.Prelude.{◌≡◌, ◌≢◌, ℕ, ◌+◌, ◌*◌, ◌/◌, ◌^◌, ◌<◌, ◌≤◌, List, [], map, length, slice_index, slice_index_or}
+use Rattle.ad_base.specs.Layout.{local_word}
 use Rattle.ad_base.specs.declared.image.Cell.{Cell}
-use Rattle.ad_base.specs.declared.image.Cell.TheVariants.{Off, Num}
 use Rattle.ad_base.specs.declared.place.Place.{Place}
 use Rattle.ad_base.specs.Place.{packed, IsModulePlace}
 use Rattle.ad_maps.specs.declared.shape.Opening.{Opening}
 use Rattle.ad_maps.specs.declared.shape.Shape.{Shape}
 use Rattle.ad_maps.specs.declared.words.TheConstants.{SLOTS, MODULE_FRAMES, MODULE_WORDS, CELLS}
-
--- the place that packs into this word
-unfoldable pub place_at : ℕ → Place
-place_at word = record {
-  region = word % 2 ^ 16;
-  start = word / 2 ^ 16 % 2 ^ 10;
-  pages = word / 2 ^ 26 % 2 ^ 10;
-  mapping = word / 2 ^ 36 % 2 ^ 12;
-  frame = word / 2 ^ 48 % 2 ^ 8;
-}
 
 -- the directory's word of a mapping: its place, and its unmap steps in bits 56 to 63
 abbrev pub directory_word : Place → ℕ → ℕ
@@ -25,11 +15,6 @@ directory_word p unmaps = packed p + unmaps * 2 ^ 56
 -- the member's word of a mapping: the line that retired it, and its region
 abbrev pub member_word : ℕ → ℕ → ℕ
 member_word line region = line * 2 ^ 16 + region
-
--- a word of the local area of a module whose movable part begins at this base
-abbrev pub local_word : ℕ → Cell → ℕ
-local_word base (Off offset) = (base + offset) % 2 ^ 64
-local_word base (Num n) = n
 
 -- the word at an entry of a local area, which is 0 past the cells
 abbrev pub cell_word : List Cell → ℕ → ℕ → ℕ

@@ -158,7 +158,7 @@ seat_of slot (stance.Paying paid last) = owing.Paying slot paid last
 abbrev pub IsMember : (ℕ → ℕ → ℕ) → (ℕ → ℕ) → (ℕ → Place) → ℕ → ℕ → ℕ → Type 0
 IsMember member lines places b k n = member b k ≡ member_word (lines n) (places n).region
 
--- The second half of the rule. The line of a row stands behind `lines`.
+-- The second half of the rule. The line of a row stands behind `lines`, and is 0 where no batch lists the mapping.
 pub record Owing (shape : Shape) (owed : owing.State) (batch : ℕ → Option ℕ) (places : ℕ → Place) (lines : ℕ → ℕ) (slot count : ℕ → ℕ) (member : ℕ → ℕ → ℕ) : Type 0 where
   pub slots : length owed.slots ≡ shape.slots
   pub seats : length owed.seats ≡ shape.workers
@@ -167,6 +167,7 @@ pub record Owing (shape : Shape) (owed : owing.State) (batch : ℕ → Option �
   pub no_count : (b : ℕ) → last_batch owed < b → count b ≡ 0
   pub each_listed : (n b : ℕ) → batch n ≡ Some b → (k : ℕ) × (k < MEMBERS) × IsMember member lines places b k n
   pub each_member : (b k : ℕ) → member b k ≢ 0 → (n : ℕ) × (batch n ≡ Some b) × IsMember member lines places b k n
+  pub each_line : (n : ℕ) → batch n ≡ None → lines n ≡ 0
 
 -- No step of the table opens a batch or lists a mapping yet. This is the one part of the rule that goes once there is such a step.
 pub record NoBatch (j : ReclaimState) : Type 0 where

@@ -2,6 +2,7 @@
 use Rattle.std.specs.Prelude.{◌≡◌, ◌+◌, ◌/◌, ◌%◌, ◌^◌, ℕ, List, [], ◌∷◌, ◌++◌, slice_set, filter, not, ◌==◌, nat_lt, if◌then◌else◌}
 use Rattle.atomic_table.specs.Table.{Me, Step}
 use Rattle.ad_base.specs.declared.place.Place.{Place}
+use Rattle.ad_base.specs.Place.{place_at}
 use Rattle.ad_maps.specs.declared.view.Act.{Act}
 use Rattle.ad_maps.specs.declared.view.Act.TheVariants as act
 use Rattle.ad_maps.specs.declared.view.Stance.{Stance}
@@ -14,7 +15,6 @@ use Rattle.ad_maps.specs.declared.view.Stage.TheVariants as stage
 use Rattle.ad_maps.specs.declared.view.Plan.{Plan}
 use Rattle.ad_maps.specs.declared.view.Doing.{Doing}
 use Rattle.ad_maps.specs.declared.view.Doing.TheVariants.{Spent, Worker, Mover}
-use Rattle.ad_maps.specs.MapPlace.{place_at}
 
 -- a seat of the table: its view, and no slots of values
 abbrev pub Sat : Type 0

@@ -1,6 +1,7 @@
 //! The mappings of the modules, on a table of atomic words that threads share.
 #![tactic(auto)]
 
+mod close;
 mod laws;
 mod maps;
 mod moves;
@@ -13,6 +14,7 @@ mod tests;
 mod view;
 mod words;
 
+pub use close::Closed;
 pub use laws::{
     law_enter, law_leave, law_map, law_other, law_own_pages, law_read, law_reading, law_switch,
 };

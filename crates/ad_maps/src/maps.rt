@@ -3,11 +3,11 @@
 ghost use Rattle.std.specs.Prelude.{◌≡◌, ◌≢◌, ◌/◌, ◌<◌, ◌≤◌, [], ◌∷◌, ◌++◌, length, IfNone, IfSome};
 ghost use Rattle.ad_base.specs.declared.layout.TheConstants.{REGION_BYTES, REGIONS};
 ghost use Rattle.ad_base.specs.declared.place.Place.{Place};
-ghost use Rattle.ad_base.specs.Place.{base_of, packed, page_number, IsInside, IsPlace};
+ghost use Rattle.ad_base.specs.Place.{base_of, packed, page_number, IsInside, IsPlace, place_at};
 ghost use Rattle.ad_maps.specs.declared.view.Act.TheVariants as act;
 ghost use Rattle.ad_maps.specs.declared.words.TheConstants.{CELLS};
 ghost use Rattle.ad_maps.specs.Ledger.{reads_of, NeverFall};
-ghost use Rattle.ad_maps.specs.MapPlace.{place_at, cell_word, cells_of, IsPlaceOf};
+ghost use Rattle.ad_maps.specs.MapPlace.{cell_word, cells_of, IsPlaceOf};
 
 use crate::steps;
 use crate::table::{MapTable, TableSeat};

@@ -1,6 +1,7 @@
 //! The mover's calls.
 
 ghost use Rattle.std.specs.Prelude.{◌≡◌, ◌≢◌, ◌+◌, ◌*◌, ◌<◌, ◌≤◌, [], ◌∷◌, ◌++◌, length, slice_index, slice_set, Contains, IfErr, IfOk};
+ghost use Rattle.ad_base.specs.Layout.{local_word};
 ghost use Rattle.ad_base.specs.declared.layout.TheConstants.{MAPPINGS};
 ghost use Rattle.ad_base.specs.Place.{base_of, IsPlace};
 ghost use Rattle.ad_maps.specs.declared.view.Deed.TheVariants as deed;
@@ -9,7 +10,7 @@ ghost use Rattle.ad_maps.specs.declared.view.Stage.TheVariants as stage;
 ghost use Rattle.ad_maps.specs.declared.view.Doing.TheVariants.{Mover};
 ghost use Rattle.ad_maps.specs.Laws.{MayMap};
 ghost use Rattle.ad_maps.specs.Ledger.{all_made};
-ghost use Rattle.ad_maps.specs.MapPlace.{cells_of, local_word, IsPlaceOf};
+ghost use Rattle.ad_maps.specs.MapPlace.{cells_of, IsPlaceOf};
 ghost use Rattle.ad_maps.specs.Seen.{FoundNone, FoundRoom};
 ghost use Rattle.ad_maps.specs.Steps.{but, made, without};
 ghost use Rattle.ad_maps.specs.Private.Handles.{filled, mapped_plan, plan_of, FindsFrame, FindsNone, IsAt, IsMover};

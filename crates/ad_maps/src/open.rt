@@ -12,7 +12,7 @@ use crate::moves::word_of;
 use crate::shape::{Opening, Shape};
 use crate::table::{Deal, MapTable, TableSeat};
 use crate::words::{CELL_BASE, CELLS, CURRENT_BASE, DIRECTORY_BASE, OWNER_BASE, WORDS};
-use ad_base::{Cell, OutOfMemory, Sequence};
+use ad_base::{Cell, OutOfMemory, Sequence, zero_words};
 use std::alloc::Global;
 
 impl Maps {
@@ -72,20 +72,12 @@ fn words_of(alloc: Global, shape: &Shape) -> Result<Vec<u64>, OutOfMemory>
     requires { IsShape shape.now }
     ensures { IfOk result (λ words. Laid shape.now (length shape.now.modules) words.items) }
 {
-    let mut words = zeros(alloc, WORDS)?;
+    let mut words = zero_words(alloc, WORDS)?;
     let modules = shape.modules.as_slice();
     for module in 0..modules.len() {
         lay(words.as_mut_slice(), shape, module, &modules[module]);
     }
     Ok(words)
-}
-
-/// So many words that are 0.
-fn zeros(alloc: Global, count: usize) -> Result<Vec<u64>, OutOfMemory>
-    ensures len { IfOk result (λ words. vec_len words ≡ count) }
-    ensures zero { IfOk result (λ words. All (λ word. word ≡ 0) words.items) }
-{
-    Ok(vec![in alloc; 0; count]?)
 }
 
 /// Lays the words of the next module.

@@ -3,14 +3,14 @@
 ghost use Rattle.std.specs.Prelude.{◌≡◌, ◌≢◌, ◌+◌, ◌/◌, ◌^◌, ◌<◌, ◌≤◌, [], ◌∷◌, ◌++◌, length, slice_index, Contains};
 ghost use Rattle.ad_base.specs.declared.layout.TheConstants.{MAPPINGS, REGION_BYTES, REGIONS};
 ghost use Rattle.ad_base.specs.declared.place.Place.{Place};
-ghost use Rattle.ad_base.specs.Place.{base_of, packed, IsPlace};
+ghost use Rattle.ad_base.specs.Place.{base_of, packed, IsPlace, place_at};
 ghost use Rattle.ad_maps.specs.declared.view.Act.TheVariants as act;
 ghost use Rattle.ad_maps.specs.declared.view.Stance.TheVariants as stance;
 ghost use Rattle.ad_maps.specs.declared.view.Stage.TheVariants as stage;
 ghost use Rattle.ad_maps.specs.declared.view.Doing.TheVariants.{Mover};
 ghost use Rattle.ad_maps.specs.Laws.{MayMap};
 ghost use Rattle.ad_maps.specs.Ledger.{reads_of, NeverFall};
-ghost use Rattle.ad_maps.specs.MapPlace.{place_at, cell_word, cells_of};
+ghost use Rattle.ad_maps.specs.MapPlace.{cell_word, cells_of};
 ghost use Rattle.ad_maps.specs.Steps.{filling, looking, mapping, switching, taking};
 ghost use Rattle.ad_maps.specs.Private.Handles.{acts_of, module_in, plan_of, stance_of, worker_of, IsAt, IsEntered, IsMover, IsPinned, IsWorker};
 ghost use Rattle.ad_maps.specs.Private.Tells.{IsWordOf};

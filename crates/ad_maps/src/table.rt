@@ -20,6 +20,8 @@ impl TableRule<(), Doing, Shape> for MapRule {
 
 pub(crate) type MapTable = Table<(), Doing, Shape, MapRule, Global>;
 
+pub(crate) type ClosedTable = atomic_table::Closed<(), Global>;
+
 pub(crate) type TableSeat = atomic_table::Seat<(), Doing>;
 
 /// What a step notes in its seat's view, or tells of the table's shape, and no operand of it carries. A call at

@@ -1,18 +1,18 @@
 //! What no clause says: worked examples, each call once with ample memory, and threads beside one another.
 //! The expected values are written by hand.
 
-ghost use Rattle.std.specs.Prelude.{◌≡◌, ◌≢◌, ℕ, ◌+◌, ◌*◌, ◌<◌, ◌≤◌, [], ◌∷◌, length, slice_index, slice_index_or, vec_len, All, Contains, IfOk};
-ghost use Rattle.ad_maps.specs.Seen.{SeatSeen};
+ghost use Rattle.std.specs.Prelude.{◌≡◌, ℕ, ◌+◌, ◌*◌, ◌<◌, ◌≤◌, [], ◌∷◌, length, slice_index, slice_index_or, Contains, IfOk};
 ghost use Rattle.std.specs.Thread.{IsSync};
 ghost use Rattle.ad_base.specs.declared.image.Cell.TheVariants.{Off, Num};
-ghost use Rattle.ad_base.specs.declared.place.Place.{Place};
 ghost use Rattle.ad_maps.specs.declared.view.Made.{Made};
 ghost use Rattle.ad_maps.specs.Ledger.{all_made};
 ghost use Rattle.ad_maps.specs.MapPlace.{no_opening, opening_of, cells_of};
+ghost use Rattle.ad_maps.specs.Rows.{AreAllSeats};
 
-use crate::{Maps, MoverSeat, Opening, Seat};
-use ad_base::{Cell, OutOfMemory, PAGE_BYTES, Place, REGION_BYTES, Sequence};
+use crate::{Closed, Inside, Maps, MoverSeat, Opening, Seat};
+use ad_base::{Cell, Kind, OutOfMemory, PAGE_BYTES, Place, REGION_BYTES, Row, Sequence};
 use std::alloc::{AllocError, Global};
+use std::process::Abort;
 use std::test::Fail;
 use std::thread;
 use std::thread::Threads;
@@ -61,6 +61,7 @@ fn openings(alloc: Global, frames: u64, modules: u64) -> Result<Vec<Opening>, Ou
 }
 
 /// A table of so many slots, frames for each module, workers and modules.
+#[tactic(auto, using(crate::proofs::NewSeats::all_of_new))]
 fn open_maps(
     alloc: Global,
     slots: u64,
@@ -75,7 +76,8 @@ fn open_maps(
     ensures modules { IfOk result (λ o. length o.0.shape.modules ≡ modules) }
     ensures frames { IfOk result (λ o. o.0.shape.frames ≡ frames) }
     ensures table { IfOk result (λ o. o.1.table ≡ o.0.table) }
-    ensures seats { IfOk result (λ o. All (λ (s : SeatSeen). s.table ≡ o.0.table) o.2.items) }
+    ensures seats { IfOk result (λ o. AreAllSeats o.0.table o.0.shape.workers o.2.items) }
+    ensures workers { IfOk result (λ o. o.0.shape.workers ≡ workers) }
     ensures pages { IfOk result (λ o. (m : ℕ) → m < modules → (opening_of o.0.shape m).place.pages ≡ 3) }
     ensures cells { IfOk result (λ o. (m : ℕ) → m < modules → cells_of o.0.shape m ≡ Off 16 ∷ Num 7 ∷ []) }
     ensures currents { IfOk result (λ o. length o.1.current ≡ modules) }
@@ -156,152 +158,257 @@ fn frames_run_out(rt: HostRuntime) -> Result<(), Fail> {
     Ok(())
 }
 
-/// Enters, and answers whether the addresses and the cells are those of the place, and which mapping it is.
-fn visited(maps: &Maps, seat: Seat, module: u64) -> (Seat, bool, u16)
-    requires table { seat.table ≡ maps.now.table }
-    requires in_range { «module» < length maps.now.shape.modules }
-    ensures table { result.0.table ≡ seat.table }
+/// Tests whether a worker that is inside sees its own mapping: the addresses of its pages and no others, and its cells.
+fn sees_itself(maps: &Maps, inside: &mut Inside) -> bool
+    requires { inside.old.seat.table ≡ maps.now.table }
+    ensures table { inside.new.seat.table ≡ inside.old.seat.table }
+    ensures worker { inside.new.seat.worker ≡ inside.old.seat.worker }
 {
-    let mut inside = maps.enter(seat, module);
     let place = inside.place();
     let base = place.base();
     let bytes = u64::from(place.pages) * PAGE_BYTES;
-    let first = maps.translate(&mut inside, base);
-    let last = maps.translate(&mut inside, base + bytes - 1);
-    let before = maps.translate(&mut inside, base.wrapping_sub(1));
-    let behind = maps.translate(&mut inside, base + bytes);
-    let nothing = maps.translate(&mut inside, 0);
-    let gate = maps.translate(&mut inside, REGION_BYTES);
-    let above = maps.translate(&mut inside, 1 << 34);
-    let offset = maps.cell(&mut inside, 0);
-    let number = maps.cell(&mut inside, 1);
-    let past = maps.cell(&mut inside, 2);
-    let end = maps.cell(&mut inside, 511);
-    let seat = maps.leave(inside);
+    let first = maps.translate(inside, base);
+    let last = maps.translate(inside, (base + bytes).wrapping_sub(1));
+    let before = maps.translate(inside, base.wrapping_sub(1));
+    let behind = maps.translate(inside, base + bytes);
+    let nothing = maps.translate(inside, 0);
+    let gate = maps.translate(inside, REGION_BYTES);
+    let above = maps.translate(inside, 1 << 34);
+    let offset = maps.cell(inside, 0);
+    let number = maps.cell(inside, 1);
+    let past = maps.cell(inside, 2);
+    let end = maps.cell(inside, 511);
     let ends = first == Some(0) && last == Some(u64::from(place.pages) - 1);
     let outside = before.is_none()
         && behind.is_none()
         && nothing.is_none()
         && gate.is_none()
         && above.is_none();
-    let cells = offset == base + 16 && number == 7 && past == 0 && end == 0;
-    (seat, ends && outside && cells, place.mapping)
+    ends && outside && offset == base + 16 && number == 7 && past == 0 && end == 0
 }
 
+/// Enters, sees its own mapping and leaves. Answers the mapping's number.
+fn visited(rt: &impl Abort, maps: &Maps, seat: Seat, module: u64) -> (Seat, u16)
+    requires table { seat.table ≡ maps.now.table }
+    requires in_range { «module» < length maps.now.shape.modules }
+    ensures table { result.0.table ≡ seat.table }
+    ensures worker { result.0.worker ≡ seat.worker }
+{
+    let mut inside = maps.enter(seat, module);
+    assert!(rt; sees_itself(maps, &mut inside));
+    let mapping = inside.place().mapping;
+    (maps.leave(inside), mapping)
+}
+
+/// Closes a table of one worker.
+fn close_one(alloc: Global, maps: Maps, mover: MoverSeat, seat: Seat) -> Result<Closed, OutOfMemory>
+    requires workers { maps.shape.workers ≡ 1 }
+    requires mover { mover.table ≡ maps.table }
+    requires seat { seat.table ≡ maps.table }
+    requires worker { seat.worker ≡ 0 }
+{
+    let mut seats = Vec::new(alloc);
+    seats.push(seat)?;
+    maps.close(alloc, mover, seats)
+}
+
+/// A table of one slot, two frames, one worker and one module, whose mapping is 1.
+fn open_one(rt: &impl Abort, alloc: Global) -> Result<(Maps, MoverSeat, Seat), OutOfMemory>
+    ensures workers { IfOk result (λ o. o.0.shape.workers ≡ 1) }
+    ensures modules { IfOk result (λ o. length o.0.shape.modules ≡ 1) }
+    ensures frames { IfOk result (λ o. o.0.shape.frames ≡ 2) }
+    ensures mover { IfOk result (λ o. o.1.table ≡ o.0.table) }
+    ensures seat { IfOk result (λ o. (o.2.table ≡ o.0.table) × (o.2.worker ≡ 0)) }
+    ensures pages { IfOk result (λ o. (opening_of o.0.shape 0).place.pages ≡ 3) }
+    ensures cells { IfOk result (λ o. cells_of o.0.shape 0 ≡ Off 16 ∷ Num 7 ∷ []) }
+    ensures currents { IfOk result (λ o. length o.1.current ≡ 1) }
+    ensures current { IfOk result (λ o. slice_index o.1.current 0 ≡ 1) }
+    ensures above { IfOk result (λ o. (x : Made) → Contains (all_made o.0.shape o.1.deeds) x → x.place.mapping < 2) }
+    ensures region { IfOk result (λ o. (x : Made) → Contains (all_made o.0.shape o.1.deeds) x → x.place.region < 4) }
+{
+    let (maps, mover, mut seats) = open_maps(alloc, 1, 2, 1, 1)?;
+    let seat = seats.pop().expect(rt, "a seat");
+    Ok((maps, mover, seat))
+}
+
+/// The row of a mapping that isn't retired.
+fn row(mapping: u16, who: u64, frame: u8) -> Row
+    requires { mapping ≤ 4095 }
+{
+    Row {
+        mapping,
+        kind: Kind::Code,
+        who,
+        place: test_place(mapping, frame),
+        line: 0,
+        unmaps: 0,
+    }
+}
+
+/// Mapping 2 is made current while a worker is inside mapping 1. Then no frame is left.
 #[test]
-fn a_visit_sees_its_own_mapping(rt: HostRuntime) -> Result<(), Fail> {
+fn a_module_is_moved_under_a_worker(rt: HostRuntime) -> Result<(), Fail> {
     let cells = test_cells(rt.alloc())?;
-    let (maps, mut mover, mut seats) = open_maps(rt.alloc(), 4, 3, 2, 1)?;
-    let Some(seat) = seats.pop() else {
-        return Err(Fail::new("no seat"));
-    };
-    let (seat, all, mapping) = visited(&maps, seat, 0);
-    assert!(rt; all && mapping == 1);
-    assert_eq!(rt; moved(&maps, &mut mover, 2, cells.as_slice()), Ok(1));
-    let (_seat, all, mapping) = visited(&maps, seat, 0);
-    assert!(rt; all && mapping == 2);
+    let (maps, mut mover, seat) = open_one(&rt, rt.alloc())?;
+    let mut inside = maps.enter(seat, 0);
+    assert_eq!(&rt; moved(&maps, &mut mover, 2, cells.as_slice()), Ok(1));
+    assert_eq!(&rt; inside.place(), test_place(1, 0));
+    assert!(&rt; sees_itself(&maps, &mut inside));
+    assert_eq!(&rt; moved(&maps, &mut mover, 3, cells.as_slice()), Err(2));
+    let seat = maps.leave(inside);
+    let (seat, mapping) = visited(&rt, &maps, seat, 0);
+    assert_eq!(&rt; mapping, 2);
+    let closed = close_one(rt.alloc(), maps, mover, seat)?;
+    assert_eq!(&rt; closed.rows().len(), 2);
+    assert_eq!(&rt; closed.rows()[0], row(1, 0, 0));
+    assert_eq!(&rt; closed.rows()[1], row(2, 0, 1));
     Ok(())
 }
 
-/// Visits module 0 so often, and answers whether each visit saw its own mapping.
-fn visits(maps: &Maps, seat: Seat, rounds: u64) -> (Seat, bool)
+/// Visits the modules in turn, so often.
+fn visits(rt: &impl Abort, maps: &Maps, seat: Seat, rounds: u64, modules: u64) -> Seat
     requires table { seat.table ≡ maps.now.table }
-    requires some_module { 0 < length maps.now.shape.modules }
-    ensures table { result.0.table ≡ seat.table }
+    requires modules { modules ≡ length maps.now.shape.modules }
+    requires some_module { 0 < modules }
+    ensures table { result.table ≡ seat.table }
+    ensures worker { result.worker ≡ seat.worker }
 {
     let mut seat = seat;
-    let mut all = true;
-    for _round in 0..rounds {
-        let (back, own, _mapping) = visited(maps, seat, 0);
+    for round in 0..rounds {
+        let (back, _mapping) = visited(rt, maps, seat, round % modules);
         seat = back;
-        all = all && own;
     }
-    (seat, all)
+    seat
 }
 
-/// Visits module 0 in a thread for each seat.
-fn all_visit<R: Threads + Sync>(
+/// Visits the modules in a thread for each seat.
+fn all_visit<R: Threads + Abort + Sync>(
     rt: &R,
     maps: &Maps,
     seats: Vec<Seat>,
     rounds: u64,
-) -> Result<Vec<(Seat, bool)>, AllocError>
-    requires seats { All (λ (s : SeatSeen). s.table ≡ maps.now.table) seats.items }
-    requires some_module { 0 < length maps.now.shape.modules }
+    modules: u64,
+) -> Result<Vec<Seat>, AllocError>
+    requires seats { AreAllSeats maps.now.table maps.now.shape.workers seats.items }
+    requires modules { modules ≡ length maps.now.shape.modules }
+    requires some_module { 0 < modules }
+    ensures { IfOk result (λ after. AreAllSeats maps.now.table maps.now.shape.workers after.items) }
 {
     thread::map_vec(
         rt,
         seats,
-        &|seat: Seat| -> (Seat, bool)
+        &|seat: Seat| -> Seat
             requires table { seat.table ≡ maps.now.table }
-            requires some_module { 0 < length maps.now.shape.modules }
-        { visits(maps, seat, rounds) },
+            requires modules { modules ≡ length maps.now.shape.modules }
+            requires some_module { 0 < modules }
+            ensures table { result.table ≡ seat.table }
+            ensures worker { result.worker ≡ seat.worker }
+        { visits(rt, maps, seat, rounds, modules) },
     )
 }
 
-/// Makes the mappings 2 to 4 for module 0, one after another, and makes each current. Answers whether each went so.
-fn three_moves(maps: &Maps, mover: MoverSeat, cells: &[Cell]) -> bool
+/// Makes so many mappings of module 0 from this number on, one after another, and makes each current.
+fn moves(
+    rt: &impl Abort,
+    maps: &Maps,
+    mover: MoverSeat,
+    cells: &[Cell],
+    first: u16,
+    times: u16,
+) -> MoverSeat
     requires table { mover.table ≡ maps.now.table }
     requires some_module { 0 < length maps.now.shape.modules }
     requires few { maps.now.shape.frames ≤ 16 }
     requires pages { (opening_of maps.now.shape 0).place.pages ≡ 3 }
     requires cells { cells.now ≡ cells_of maps.now.shape 0 }
-    requires current { slice_index mover.current 0 < 2 }
+    requires from { 1 ≤ first }
+    requires to { first + times ≤ 4095 }
+    requires current { slice_index mover.current 0 < first }
     requires some_current { 0 < length mover.current }
-    requires above { (x : Made) → Contains (all_made maps.now.shape mover.deeds) x → x.place.mapping < 2 }
-    requires region { (x : Made) → Contains (all_made maps.now.shape mover.deeds) x → x.place.region < 4 }
+    requires above { (x : Made) → Contains (all_made maps.now.shape mover.deeds) x → x.place.mapping < first }
+    requires region { (x : Made) → Contains (all_made maps.now.shape mover.deeds) x → x.place.region < 2 + first }
+    ensures { result.table ≡ mover.table }
 {
     let mut mover = mover;
-    let first = moved(maps, &mut mover, 2, cells);
-    let second = moved(maps, &mut mover, 3, cells);
-    let third = moved(maps, &mut mover, 4, cells);
-    first == Ok(1) && second == Ok(2) && third == Ok(3)
+    for more in 0..times {
+        let number = first + more;
+        let before = if more == 0 { 1 } else { number - 1 };
+        assert_eq!(rt; moved(maps, &mut mover, number, cells), Ok(before));
+    }
+    mover
 }
 
-/// Workers visit module 0 beside a mover that moves it. Answers whether each visit saw its own mapping, and each move
-/// was made.
-fn beside_one_another<R: Threads + Sync>(
+/// Workers visit the modules beside a mover that moves module 0. Gives the closed table.
+fn beside_one_another<R: Threads + Abort + Sync>(
     rt: &R,
     alloc: Global,
     workers: u64,
+    modules: u16,
     rounds: u64,
-) -> Result<bool, OutOfMemory>
-    requires { workers ≤ 64 }
+    times: u16,
+) -> Result<Closed, OutOfMemory>
+    requires workers { workers ≤ 64 }
+    requires some_module { 1 ≤ modules }
+    requires few_modules { modules ≤ 8 }
+    requires times { times ≤ 15 }
 {
     let cells = test_cells(alloc)?;
-    let (maps, mover, seats) = open_maps(alloc, 4, 4, workers, 1)?;
+    let count = u64::from(modules);
+    let (maps, mover, seats) = open_maps(alloc, 16, 16, workers, count)?;
     let table = &maps;
     let slice = cells.as_slice();
-    let (visited, moved) = thread::join(
+    let first = 1 + modules;
+    let (seats, mover) = thread::join(
         rt,
-        move || -> Result<Vec<(Seat, bool)>, AllocError>
+        move || -> Result<Vec<Seat>, AllocError>
             requires sync { IsSync R.row }
-            requires seats { All (λ (s : SeatSeen). s.table ≡ table.now.table) seats.items }
-            requires some_module { 0 < length table.now.shape.modules }
-        { all_visit(rt, table, seats, rounds) },
-        move || -> bool
+            requires seats { AreAllSeats table.now.table table.now.shape.workers seats.items }
+            requires modules { count ≡ length table.now.shape.modules }
+            requires some_module { 0 < count }
+            ensures { IfOk result (λ after. AreAllSeats table.entry.now.table table.entry.now.shape.workers after.items) }
+        { all_visit(rt, table, seats, rounds, count) },
+        move || -> MoverSeat
             requires table { mover.table ≡ table.now.table }
             requires some_module { 0 < length table.now.shape.modules }
             requires few { table.now.shape.frames ≤ 16 }
             requires pages { (opening_of table.now.shape 0).place.pages ≡ 3 }
             requires cells { slice.now ≡ cells_of table.now.shape 0 }
-            requires current { slice_index mover.current 0 < 2 }
+            requires from { 1 ≤ first }
+            requires to { first + times ≤ 4095 }
+            requires current { slice_index mover.current 0 < first }
             requires some_current { 0 < length mover.current }
-            requires above { (x : Made) → Contains (all_made table.now.shape mover.deeds) x → x.place.mapping < 2 }
-            requires region { (x : Made) → Contains (all_made table.now.shape mover.deeds) x → x.place.region < 4 }
-        { three_moves(table, mover, slice) },
+            requires above { (x : Made) → Contains (all_made table.now.shape mover.deeds) x → x.place.mapping < first }
+            requires region { (x : Made) → Contains (all_made table.now.shape mover.deeds) x → x.place.region < 2 + first }
+            ensures { result.table ≡ table.entry.now.table }
+        { moves(rt, table, mover, slice, first, times) },
     );
-    let mut all = moved;
-    for (_seat, own) in visited? {
-        all = all && own;
-    }
-    Ok(all)
+    maps.close(alloc, mover, seats?)
 }
 
-/// A stress run is no proof: it shows that threads run beside one another.
+/// Visits that each worker makes in a test. `bench/maps` says how to make more.
+const ROUNDS: u64 = 300;
+
+/// Workers, modules, visits of each worker, and moves of module 0.
+const RUNS: [(u64, u16, u64, u16); 2] = [(8, 1, ROUNDS, 15), (64, 8, 20, 15)];
+
+/// A stress run is no proof: it shows that threads run beside one another, and what they leave.
 #[test]
 fn threads_see_their_own_mappings(rt: HostRuntime) -> Result<(), Fail> {
-    assert!(rt; beside_one_another(&rt, rt.alloc(), 8, 300)?);
-    assert!(rt; beside_one_another(&rt, rt.alloc(), 64, 20)?);
+    for (workers, modules, rounds, times) in RUNS {
+        assert!(rt; workers <= 64 && 1 <= modules && modules <= 8 && times <= 15);
+        let closed = beside_one_another(&rt, rt.alloc(), workers, modules, rounds, times)?;
+        assert_eq!(rt; closed.rows().len(), usize::from(modules + times));
+        for index in 0..modules + times {
+            let opened = index < modules;
+            let who = if opened { u64::from(index) } else { 0 };
+            let frame = if opened {
+                index * 16
+            } else {
+                index + 1 - modules
+            };
+            let expected = row(1 + index, who, frame as u8);
+            assert_eq!(rt; closed.rows()[usize::from(index)], expected);
+        }
+    }
     Ok(())
 }

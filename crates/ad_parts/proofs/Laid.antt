@@ -62,7 +62,7 @@ end_of-push : (ss : List Section) (s : Section) → end_of (ss ++ s ∷ []) ≡ 
 unfolding end_of
 end_of-push ss s = fold-append (λ at (s : Section). next (align_of s) at + s.size) 0 ss s
 
-area_end-push : (a : Area) (ss : List Section) (s : Section) → area_end a (ss ++ s ∷ []) ≡ cond (is_same (area_of s) a) (next (align_of s) (area_end a ss) + s.size) (area_end a ss)
+pub area_end-push : (a : Area) (ss : List Section) (s : Section) → area_end a (ss ++ s ∷ []) ≡ cond (is_same (area_of s) a) (next (align_of s) (area_end a ss) + s.size) (area_end a ss)
 area_end-push a ss s =
     ap end_of (filter-append (λ (s : Section). is_same (area_of s) a) ss (s ∷ []))
     ∙ elim (cases_Bool (is_same (area_of s) a)) [

@@ -1,13 +1,15 @@
 //! Where the sections of an object go.
 
-use ad_base::Sequence;
+use ad_base::{Export, Sequence};
 
-/// Where the sections of an object go, and how long the groups are.
+/// Where the sections of an object go, how long the groups are, and which symbols calls may enter.
 #[derive(Debug, Drop)]
 pub struct Layout {
     /// One for each section, in order.
     pub spots: Sequence<Spot>,
     pub sizes: Sizes,
+    /// In the order of the table of symbols.
+    pub exports: Sequence<Export>,
 }
 
 /// A group of sections of one part.

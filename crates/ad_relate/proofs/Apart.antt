@@ -1,23 +1,21 @@
 -- Where the parts of an address space lie: each alone in its region, so an address finds only the segments of the part
 -- whose region it is in.
-use Rattle.std.proofs.Common.{◌≡◌, ◌≢◌, ℕ, ◌+◌, ◌*◌, ◌<◌, ◌≤◌, ◌⊎◌, List, [], ◌∷◌, ◌++◌, Option, None, Some, length, map, inl, inr, refl, sym, ap, ◌∙◌, arith}
+use Rattle.std.proofs.Common.{◌≡◌, ◌≢◌, ℕ, ◌+◌, ◌*◌, ◌<◌, ◌≤◌, ◌⊎◌, Bool, List, [], ◌∷◌, ◌++◌, Option, None, Some, map, inl, inr, refl, sym, ap, ◌∙◌, add_assoc, append_assoc, arith}
 use Rattle.std.specs.Option.{option_or}
+use Rattle.std.specs.Prelude.{find}
 use Rattle.std.proofs.lemmas.Bool.{cases_lt}
 use Rattle.std.proofs.lemmas.Bool.Decides.{nat_tests}
 use Rattle.std.proofs.lemmas.List.{length-map}
 use Rattle.std.proofs.lemmas.List.Folds.{find-append}
 use Rattle.ad_base.specs.declared.layout.TheConstants.{MODULE_REGION, PAGE_BYTES, REGION_BYTES, REGIONS}
 use Rattle.ad_base.specs.declared.place.Place.{Place}
+use Rattle.ad_base.specs.declared.role.Role.{Role}
+use Rattle.ad_base.specs.Layout.{extents_from, fixed_roles, movable_roles, rights_of, size_of, stack_roles}
 use Rattle.ad_base.specs.Place.{IsPlace, base_of}
-use Rattle.ad_core.specs.Segments.{Segment, holding, holds}
-use Rattle.ad_core.specs.Image.{laid_out}
-use Rattle.ad_symbolic.specs.AddressSpace.{AddressSpace, SymbolicPiece, fixed_part, movable_part, stack_part}
-use Rattle.ad_relate.specs.Stands.{Fits, IsApart, Places, byte_at, segments_at}
-use Rattle.ad_relate.proofs.Parts.{fixed-stands, movable-stands, piece_at, size, size-fixed, size-movable, size-stack}
-
--- the segments that bytes of a part stand for, from an address on
-abbrev pub segments_from : Places → ℕ → List SymbolicPiece → List Segment
-segments_from ps base bs = laid_out base (map (piece_at ps) bs)
+use Rattle.ad_base.specs.Segments.{Extent, Segment, extent_of, extents, holding, holds}
+use Rattle.ad_symbolic.specs.AddressSpace.{AddressSpace}
+use Rattle.ad_symbolic.specs.Value.{Byte}
+use Rattle.ad_relate.specs.Stands.{Fits, IsApart, Places, byte_at, segment_at, segments_at}
 
 -- the address is none of the place's bytes
 abbrev pub Misses : Place → ℕ → Type 0
@@ -28,29 +26,41 @@ pub record IsIn (region at : ℕ) : Type 0 where
   pub from : region * REGION_BYTES ≤ at
   pub to : at < (region + 1) * REGION_BYTES
 
--- these bytes fill the pages of the place
-pub record Fills (q : Place) (bs : List SymbolicPiece) : Type 0 where
+-- how many bytes pieces have together
+abbrev together : (Role → ℕ) → List Role → ℕ
+together size [] = 0
+together size (r ∷ rs) = size r + together size rs
+
+-- these segments fill the pages of the place
+pub record Fills (q : Place) (part : List (Segment ℕ)) : Type 0 where
   pub place : IsPlace q
-  pub size : size bs ≡ q.pages * PAGE_BYTES
+  pub size : Role → ℕ
+  pub roles : List Role
+  pub lies : extents part ≡ extents_from (base_of q) size roles
+  pub whole : together size roles ≡ q.pages * PAGE_BYTES
 
 -- segments of which only these hold addresses of the place's region
-pub record IsAlone (ps : Places) (segments : List Segment) (q : Place) (bs : List SymbolicPiece) : Type 0 where
-  pub fills : Fills q bs
-  pub alone : (at : ℕ) → IsIn q.region at → holding segments at ≡ holding (segments_from ps (base_of q) bs) at
+pub record IsAlone (segments part : List (Segment ℕ)) (q : Place) : Type 0 where
+  pub fills : Fills q part
+  pub alone : (at : ℕ) → IsIn q.region at → holding segments at ≡ holding part at
 
--- an address before the bytes or behind them is in none of their segments
-holding-outside : (ps : Places) (bs : List SymbolicPiece) (base at : ℕ) → (at < base) ⊎ (base + size bs ≤ at) → holding (segments_from ps base bs) at ≡ None
-holding-outside ps [] base at out = refl
-holding-outside ps (b ∷ bs) base at (inl before) =
-    let long = length-map b.bytes (byte_at ps) in
-    grind (arith, nat_tests, holding-outside ps bs (base + length (map (byte_at ps) b.bytes)) at (inl (omega arith)))
-holding-outside ps (b ∷ bs) base at (inr behind) =
-    let long = length-map b.bytes (byte_at ps) in
-    grind (arith, nat_tests, holding-outside ps bs (base + length (map (byte_at ps) b.bytes)) at (inr (omega (arith, long))))
+-- an address before the pieces or behind them is in none of their segments
+holding-outside : (part : List (Segment ℕ)) (base at : ℕ) (size : Role → ℕ) (roles : List Role) → extents part ≡ extents_from base size roles → (at < base) ⊎ (base + together size roles ≤ at) → holding part at ≡ None
+holding-outside [] base at size roles e out = refl
+holding-outside (s ∷ part) base at size [] e out = absurd cc
+holding-outside (s ∷ part) base at size (r ∷ rs) e out =
+    let here : extent_of s ≡ record { base = base; size = size r; rights = rights_of r; role = r } = cc in
+    let start = ap (λ (x : Extent). x.base) here in
+    let long = ap (λ (x : Extent). x.size) here in
+    let rest : extents part ≡ extents_from (base + size r) size rs = cc in
+    elim out [
+      | inl before ↦ grind (arith, nat_tests, start, long, holding-outside part (base + size r) at size rs rest (inl (omega (arith, before))))
+      | inr behind ↦ grind (arith, nat_tests, start, long, holding-outside part (base + size r) at size rs rest (inr (omega (arith, behind))))
+    ]
 
-pub holding-missed : (ps : Places) (q : Place) (bs : List SymbolicPiece) (at : ℕ) → Fills q bs → Misses q at → holding (segments_from ps (base_of q) bs) at ≡ None
-holding-missed ps q bs at fills (inl before) = holding-outside ps bs (base_of q) at (inl before)
-holding-missed ps q bs at fills (inr behind) = holding-outside ps bs (base_of q) at (inr (omega (arith, fills.size)))
+pub holding-missed : (q : Place) (part : List (Segment ℕ)) (at : ℕ) → Fills q part → Misses q at → holding part at ≡ None
+holding-missed q part at fills (inl before) = holding-outside part (base_of q) at fills.size fills.roles fills.lies (inl before)
+holding-missed q part at fills (inr behind) = holding-outside part (base_of q) at fills.size fills.roles fills.lies (inr (omega (arith, fills.whole, behind)))
 
 -- an address of another region misses a place
 elsewhere : (q : Place) (region at : ℕ) → IsPlace q → region ≢ q.region → IsIn region at → Misses q at
@@ -64,84 +74,110 @@ misses-outside : (q : Place) (at : ℕ) → IsPlace q → (at < MODULE_REGION * 
 misses-outside q at place (inl before) = inl (omega (arith, place.region_from))
 misses-outside q at place (inr behind) = inr (omega (arith, place.region_to, place.page_behind))
 
--- where the first list does not hold an address, the second counts
-holding-second : (xs ys : List Segment) (at : ℕ) → holding xs at ≡ None → holding (xs ++ ys) at ≡ holding ys at
-holding-second xs ys at none = find-append (holds at) xs ys ∙ ap (λ x. option_or x (holding ys at)) none
+-- where none is found in the first list, the second counts
+pub find-second : {A : Type 0} (p : A → Bool) (xs ys : List A) → find p xs ≡ None → find p (xs ++ ys) ≡ find p ys
+find-second p xs ys none = find-append p xs ys ∙ ap (λ x. option_or x (find p ys)) none
 
 option_or-none : {A : Type 0} (x : Option A) → option_or x None ≡ x
 option_or-none None = refl
 option_or-none (Some x) = refl
 
--- where the second does not, the first counts
-holding-first : (xs ys : List Segment) (at : ℕ) → holding ys at ≡ None → holding (xs ++ ys) at ≡ holding xs at
-holding-first xs ys at none = find-append (holds at) xs ys ∙ ap (λ y. option_or (holding xs at) y) none ∙ option_or-none (holding xs at)
+-- where none is found in the second, the first counts
+pub find-first : {A : Type 0} (p : A → Bool) (xs ys : List A) → find p ys ≡ None → find p (xs ++ ys) ≡ find p xs
+find-first p xs ys none = find-append p xs ys ∙ ap (λ y. option_or (find p xs) y) none ∙ option_or-none (find p xs)
 
--- the segments of each part
-abbrev stack_segments : AddressSpace → Places → List Segment
-stack_segments space ps = segments_from ps (base_of ps.stack) (stack_part space)
+-- the segments that those of a part stand for, so many bytes further on
+abbrev pub part_at : Places → ℕ → List (Segment Byte) → List (Segment ℕ)
+part_at ps shift part = map (segment_at ps shift) part
 
-abbrev fixed_segments : AddressSpace → Places → List Segment
-fixed_segments space ps = segments_from ps (base_of space.image.fixed) (fixed_part space)
+-- they lie so many bytes further on
+pub extents-at : (ps : Places) (shift base : ℕ) (size : Role → ℕ) (roles : List Role) (part : List (Segment Byte)) → extents part ≡ extents_from base size roles → extents (part_at ps shift part) ≡ extents_from (shift + base) size roles
+extents-at ps shift base size [] [] e = refl
+extents-at ps shift base size [] (s ∷ part) e = absurd cc
+extents-at ps shift base size (r ∷ rs) [] e = absurd cc
+extents-at ps shift base size (r ∷ rs) (s ∷ part) e =
+    let here : extent_of s ≡ record { base = base; size = size r; rights = rights_of r; role = r } = cc in
+    let rest : extents part ≡ extents_from (base + size r) size rs = cc in
+    let long = length-map s.bytes (byte_at ps) ∙ ap (λ (x : Extent). x.size) here in
+    let more = extents-at ps shift (base + size r) size rs part rest ∙ ap (λ n. extents_from n size rs) (sym (add_assoc shift base (size r))) in
+    λ j. record { base = shift + (here j).base; size = long j; rights = (here j).rights; role = (here j).role } ∷ more j
 
-abbrev movable_segments : AddressSpace → Places → List Segment
-movable_segments space ps = segments_from ps (base_of ps.movable) (movable_part space)
+module _ (space : AddressSpace) (ps : Places) where
+  -- the segments of each part
+  abbrev pub stack_segments : List (Segment ℕ)
+  stack_segments = part_at ps (base_of ps.stack) space.stack
 
--- the stack counts first, and the movable part last
-in-order : (space : AddressSpace) (ps : Places) → segments_at ps space ≡ stack_segments space ps ++ (fixed_segments space ps ++ movable_segments space ps)
-in-order space ps = λ j. stack_segments space ps ++ (laid_out (base_of space.image.fixed) (sym (fixed-stands ps space) j) ++ laid_out (base_of ps.movable) (sym (movable-stands ps space) j))
+  abbrev pub fixed_segments : List (Segment ℕ)
+  fixed_segments = part_at ps 0 space.fixed
 
-module _ (space : AddressSpace) (ps : Places) (apart : IsApart space.image ps) (fits : Fits space) where
-  -- each part fills its place
-  fills-stack : Fills ps.stack (stack_part space)
-  fills-stack = record { place = apart.stack; size = size-stack space apart.whole fits ∙ ap (λ n. n * PAGE_BYTES) (sym apart.stack_size) }
+  abbrev pub movable_segments : List (Segment ℕ)
+  movable_segments = part_at ps (base_of ps.movable) space.movable
 
-  fills-fixed : Fills space.image.fixed (fixed_part space)
-  fills-fixed = record { place = apart.whole.fixed_place.place; size = size-fixed space apart.whole fits ∙ ap (λ n. n * PAGE_BYTES) (sym apart.whole.fixed_size) }
+  module _ (apart : IsApart space.image ps) (fits : Fits space) where
+    -- a part fills its place
+    filled : (q : Place) (shift base : ℕ) (roles : List Role) (part : List (Segment Byte)) → IsPlace q → shift + base ≡ base_of q → together (size_of space.image) roles ≡ q.pages * PAGE_BYTES → extents part ≡ extents_from base (size_of space.image) roles → Fills q (part_at ps shift part)
+    filled q shift base roles part place from whole lies = record {
+      place = place;
+      size = size_of space.image;
+      roles = roles;
+      lies = extents-at ps shift base (size_of space.image) roles part lies ∙ ap (λ n. extents_from n (size_of space.image) roles) from;
+      whole = whole;
+    }
 
-  fills-movable : Fills ps.movable (movable_part space)
-  fills-movable = record { place = apart.movable.place; size = size-movable space apart.whole fits ∙ ap (λ n. n * PAGE_BYTES) (sym apart.movable_size) }
+    fills-stack : Fills ps.stack stack_segments
+    fills-stack = filled ps.stack (base_of ps.stack) 0 stack_roles space.stack apart.stack (omega arith) (omega (arith, apart.stack_size)) fits.stack
 
-  -- what of the address is held by the immovable and the movable part
-  hidden : (at : ℕ) → Misses ps.stack at → holding (segments_at ps space) at ≡ holding (fixed_segments space ps ++ movable_segments space ps) at
-  hidden at no_stack = ap (λ segments. holding segments at) (in-order space ps) ∙ holding-second (stack_segments space ps) (fixed_segments space ps ++ movable_segments space ps) at (holding-missed ps ps.stack (stack_part space) at fills-stack no_stack)
+    fills-fixed : Fills space.image.fixed fixed_segments
+    fills-fixed = filled space.image.fixed 0 (base_of space.image.fixed) fixed_roles space.fixed apart.whole.fixed_place.place (omega arith) (omega (arith, apart.whole.fixed_size)) fits.fixed
 
-  -- where the immovable part does not hold it, the movable one counts, and the other way round
-  none-fixed : (at : ℕ) → Misses space.image.fixed at → holding (fixed_segments space ps ++ movable_segments space ps) at ≡ holding (movable_segments space ps) at
-  none-fixed at no_fixed = holding-second (fixed_segments space ps) (movable_segments space ps) at (holding-missed ps space.image.fixed (fixed_part space) at fills-fixed no_fixed)
+    fills-movable : Fills ps.movable movable_segments
+    fills-movable = filled ps.movable (base_of ps.movable) 0 movable_roles space.movable apart.movable.place (omega arith) (omega (arith, apart.movable_size)) fits.movable
 
-  none-movable : (at : ℕ) → Misses ps.movable at → holding (fixed_segments space ps ++ movable_segments space ps) at ≡ holding (fixed_segments space ps) at
-  none-movable at no_movable = holding-first (fixed_segments space ps) (movable_segments space ps) at (holding-missed ps ps.movable (movable_part space) at fills-movable no_movable)
+    -- the stack counts first, and the movable part last
+    in-order : segments_at ps space ≡ stack_segments ++ (fixed_segments ++ movable_segments)
+    in-order = append_assoc stack_segments fixed_segments movable_segments
 
-  -- each part is alone in its region
-  pub movable-alone : IsAlone ps (segments_at ps space) ps.movable (movable_part space)
-  movable-alone = record {
-    fills = fills-movable;
-    alone = λ at here.
-        hidden at (elsewhere ps.stack ps.movable.region at apart.stack apart.movable_stack here)
-        ∙ none-fixed at (elsewhere space.image.fixed ps.movable.region at apart.whole.fixed_place.place apart.movable_fixed here);
-  }
+    -- where the stack does not hold an address, the immovable and the movable part count
+    hidden : (at : ℕ) → Misses ps.stack at → holding (segments_at ps space) at ≡ holding (fixed_segments ++ movable_segments) at
+    hidden at no_stack = ap (λ segments. holding segments at) in-order ∙ find-second (holds at) stack_segments (fixed_segments ++ movable_segments) (holding-missed ps.stack stack_segments at fills-stack no_stack)
 
-  pub fixed-alone : IsAlone ps (segments_at ps space) space.image.fixed (fixed_part space)
-  fixed-alone = record {
-    fills = fills-fixed;
-    alone = λ at here.
-        hidden at (elsewhere ps.stack space.image.fixed.region at apart.stack (λ e. apart.stack_fixed (sym e)) here)
-        ∙ none-movable at (elsewhere ps.movable space.image.fixed.region at apart.movable.place (λ e. apart.movable_fixed (sym e)) here);
-  }
+    -- where the immovable part does not hold it, the movable one counts, and the other way round
+    none-fixed : (at : ℕ) → Misses space.image.fixed at → holding (fixed_segments ++ movable_segments) at ≡ holding movable_segments at
+    none-fixed at no_fixed = find-second (holds at) fixed_segments movable_segments (holding-missed space.image.fixed fixed_segments at fills-fixed no_fixed)
 
-  pub stack-alone : IsAlone ps (segments_at ps space) ps.stack (stack_part space)
-  stack-alone = record {
-    fills = fills-stack;
-    alone = λ at here.
-        ap (λ segments. holding segments at) (in-order space ps)
-        ∙ holding-first (stack_segments space ps) (fixed_segments space ps ++ movable_segments space ps) at
-        (none-fixed at (elsewhere space.image.fixed ps.stack.region at apart.whole.fixed_place.place apart.stack_fixed here)
-        ∙ holding-missed ps ps.movable (movable_part space) at fills-movable (elsewhere ps.movable ps.stack.region at apart.movable.place (λ e. apart.movable_stack (sym e)) here));
-  }
+    none-movable : (at : ℕ) → Misses ps.movable at → holding (fixed_segments ++ movable_segments) at ≡ holding fixed_segments at
+    none-movable at no_movable = find-first (holds at) fixed_segments movable_segments (holding-missed ps.movable movable_segments at fills-movable no_movable)
 
-  -- an address in no region for places is in none of the segments
-  pub holding-none : (at : ℕ) → (at < MODULE_REGION * REGION_BYTES) ⊎ (REGIONS * REGION_BYTES ≤ at) → holding (segments_at ps space) at ≡ None
-  holding-none at out =
-      hidden at (misses-outside ps.stack at apart.stack out)
-      ∙ none-fixed at (misses-outside space.image.fixed at apart.whole.fixed_place.place out)
-      ∙ holding-missed ps ps.movable (movable_part space) at fills-movable (misses-outside ps.movable at apart.movable.place out)
+    -- each part is alone in its region
+    pub movable-alone : IsAlone (segments_at ps space) movable_segments ps.movable
+    movable-alone = record {
+      fills = fills-movable;
+      alone = λ at here.
+          hidden at (elsewhere ps.stack ps.movable.region at apart.stack apart.movable_stack here)
+          ∙ none-fixed at (elsewhere space.image.fixed ps.movable.region at apart.whole.fixed_place.place apart.movable_fixed here);
+    }
+
+    pub fixed-alone : IsAlone (segments_at ps space) fixed_segments space.image.fixed
+    fixed-alone = record {
+      fills = fills-fixed;
+      alone = λ at here.
+          hidden at (elsewhere ps.stack space.image.fixed.region at apart.stack (λ e. apart.stack_fixed (sym e)) here)
+          ∙ none-movable at (elsewhere ps.movable space.image.fixed.region at apart.movable.place (λ e. apart.movable_fixed (sym e)) here);
+    }
+
+    pub stack-alone : IsAlone (segments_at ps space) stack_segments ps.stack
+    stack-alone = record {
+      fills = fills-stack;
+      alone = λ at here.
+          ap (λ segments. holding segments at) in-order
+          ∙ find-first (holds at) stack_segments (fixed_segments ++ movable_segments)
+          (none-fixed at (elsewhere space.image.fixed ps.stack.region at apart.whole.fixed_place.place apart.stack_fixed here)
+          ∙ holding-missed ps.movable movable_segments at fills-movable (elsewhere ps.movable ps.stack.region at apart.movable.place (λ e. apart.movable_stack (sym e)) here));
+    }
+
+    -- an address in no region for places is in none of the segments
+    pub holding-none : (at : ℕ) → (at < MODULE_REGION * REGION_BYTES) ⊎ (REGIONS * REGION_BYTES ≤ at) → holding (segments_at ps space) at ≡ None
+    holding-none at out =
+        hidden at (misses-outside ps.stack at apart.stack out)
+        ∙ none-fixed at (misses-outside space.image.fixed at apart.whole.fixed_place.place out)
+        ∙ holding-missed ps.movable movable_segments at fills-movable (misses-outside ps.movable at apart.movable.place out)

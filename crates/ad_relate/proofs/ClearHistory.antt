@@ -11,14 +11,15 @@ use Rattle.ad_base.specs.declared.layout.TheConstants.{PAGE_BYTES, STACK_PAGES}
 use Rattle.ad_base.specs.Book.{Contents}
 use Rattle.ad_base.specs.Image.{IsWhole}
 use Rattle.ad_base.specs.Place.{base_of}
-use Rattle.ad_core.specs.Plain.{at_start}
-use Rattle.ad_core.specs.Segments.{is_data, is_fixed_data}
-use Rattle.ad_core.specs.Turn.{AreTurns, IsLawful, IsTurn, fixed_data_of, opening_contents, plain, reached, writable_of, export_offset}
-use Rattle.ad_core.proofs.Sizes.{length-bytes_of_role, shaped, shapes}
+use Rattle.ad_base.specs.Segments.{extents, is_data, is_fixed_data}
+use Rattle.ad_base.proofs.Extents.{length-bytes_of_role}
+use Rattle.ad_core.specs.Turn.{AreTurns, IsLawful, IsTurn, fixed_data_of, memory_before, opening_contents, plain, reached, writable_of, export_offset}
+use Rattle.ad_core.proofs.Stay.{called_extents}
 use Rattle.ad_symbolic.specs.declared.value.Value.TheVariants.{Num}
 use Rattle.ad_symbolic.specs.AddressSpace.{numbers_of}
 use Rattle.ad_symbolic.specs.Machine.{SymbolicOutcome, Unclear}
 use Rattle.ad_symbolic.specs.Replay.{Answer, Clear, Keeps, Kept, answer_of, answers_from, clear_calls, end_of, keeps_none, kept_of, left_by, number_or_zero, replay, run_of}
+use Rattle.ad_symbolic.specs.Replay as symbolic
 use Rattle.ad_relate.specs.Stands.{DataFits, IsApart}
 use Rattle.ad_relate.specs.ClearHistory.{AreOffsets, ArePlacedApart, RepliesAsReplayed, asked_of, entry_places}
 use Rattle.ad_relate.proofs.Clear.{agrees}
@@ -35,14 +36,14 @@ offset-there i number export e = ap (λ o. option_map_or (λ (x : Export). x.off
 
 -- a call leaves as much data as there was
 module _ (i : Image) (fuel : ℕ) (book : Contents) (e : Entry) (offset : ℕ) where
-  same-shapes : shapes (plain i fuel book e.under e.stack offset e.args).memory.segments ≡ shapes (reached i book e.under e.stack)
-  same-shapes = shaped fuel ((base_of e.under + offset) % 2 ^ 64) (base_of e.stack + STACK_PAGES * PAGE_BYTES) e.args (at_start (reached i book e.under e.stack) [] book.device)
+  same-extents : extents (plain i fuel book e.under e.stack offset e.args).memory.segments ≡ extents (reached i book e.under e.stack)
+  same-extents = called_extents fuel ((base_of e.under + offset) % 2 ^ 64) (base_of e.stack + STACK_PAGES * PAGE_BYTES) e.args (memory_before i book e.under e.stack)
 
   length-writable : length (writable_of (plain i fuel book e.under e.stack offset e.args)) ≡ length book.writable
-  length-writable = length-bytes_of_role is_data (plain i fuel book e.under e.stack offset e.args).memory.segments (reached i book e.under e.stack) same-shapes
+  length-writable = length-bytes_of_role is_data (plain i fuel book e.under e.stack offset e.args).memory.segments (reached i book e.under e.stack) same-extents
 
   length-fixed : length (fixed_data_of (plain i fuel book e.under e.stack offset e.args)) ≡ length book.fixed
-  length-fixed = length-bytes_of_role is_fixed_data (plain i fuel book e.under e.stack offset e.args).memory.segments (reached i book e.under e.stack) same-shapes
+  length-fixed = length-bytes_of_role is_fixed_data (plain i fuel book e.under e.stack offset e.args).memory.segments (reached i book e.under e.stack) same-extents
 
 module _ (i : Image) (fuel : ℕ) (offsets : AreOffsets i) where
   -- the symbolic machine keeps what the book holds
@@ -54,7 +55,7 @@ module _ (i : Image) (fuel : ℕ) (offsets : AreOffsets i) where
   record IsAnswered (e : Entry) (after : Contents) (o : SymbolicOutcome) : Type 0 where
     end : e.end ≡ end_of o.finish
     notes : e.notes ≡ map number_or_zero o.memory.notes
-    left : IsKept (record { writable = o.memory.space.writable; fixed = o.memory.space.fixed; queue = o.memory.queue }) after
+    left : IsKept (record { writable = symbolic.writable_of o; fixed = symbolic.fixed_data_of o; queue = o.memory.queue }) after
 
   answered : (k : Kept) (before after : Contents) (e : Entry) (o : SymbolicOutcome) → IsKept k before → IsTurn i fuel before e after → IsApart i (entry_places e) → run_of i fuel k (asked_of i e) ≡ Ok o → keeps_none o ≡ true → IsAnswered e after o
   answered k before after e o kept turn apart ran none =
@@ -93,7 +94,7 @@ module _ (i : Image) (fuel : ℕ) (offsets : AreOffsets i) where
   answer_by none o = if none then Clear (end_of o.finish) (map number_or_zero o.memory.notes) else Keeps
 
   left_by_none : Bool → SymbolicOutcome → Option Kept
-  left_by_none none o = if none then Some (record { writable = o.memory.space.writable; fixed = o.memory.space.fixed; queue = o.memory.queue }) else None
+  left_by_none none o = if none then Some (record { writable = symbolic.writable_of o; fixed = symbolic.fixed_data_of o; queue = o.memory.queue }) else None
 
   by_keeping : (x : Entry) (xs : List Entry) (next : Contents) (o : SymbolicOutcome) (none : Bool) → (none ≡ true → IsAnswered x next o) → ((k : Kept) → IsKept k next → Replied k xs) → (n : ℕ) (e : Entry) → n < clear_calls (answer_by none o ∷ said (left_by_none none o) xs) → slice_get (x ∷ xs) n ≡ Some e → slice_get (answer_by none o ∷ said (left_by_none none o) xs) n ≡ Some (Clear e.end e.notes)
   unfolding said Replied answer_by left_by_none

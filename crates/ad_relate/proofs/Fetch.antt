@@ -1,6 +1,7 @@
--- What the symbolic machine finds where it fetches is what the plain machine finds at the address.
-use Rattle.std.proofs.Common.{◌≡◌, ℕ, ◌+◌, ◌-◌, ◌*◌, ◌%◌, ◌^◌, ◌<◌, ◌≤◌, ◌==◌, ◌&&◌, nat_lt, nat_le, Bool, true, false, cond, if◌then◌else◌, List, [], ◌∷◌, length, map, take, drop, None, Some, Result, Ok, Err, subst, mod-eq_of_lt, inl, inr, refl, sym, ap, ◌∙◌, arith}
-use Rattle.std.proofs.lemmas.Bool.{cases_lt, cond_both, ltb-false, ltb-true}
+-- What the symbolic machine reaches is what the plain machine reaches at the address, and what it finds where it fetches
+-- is what is found there.
+use Rattle.std.proofs.Common.{◌≡◌, ℕ, ◌+◌, ◌-◌, ◌*◌, ◌%◌, ◌^◌, ◌<◌, ◌≤◌, ◌==◌, ◌&&◌, nat_lt, nat_le, Bool, true, false, if◌then◌else◌, List, [], ◌∷◌, map, take, drop, Option, None, Some, Result, Ok, Err, IfOk, subst, mod-eq_of_lt, inl, inr, refl, sym, ap, ◌∙◌, arith}
+use Rattle.std.proofs.lemmas.Bool.{cases_lt, cond_both, eq-eqb, eqb-true, ltb-false, ltb-true}
 use Rattle.std.proofs.lemmas.Bool.Decides.{nat_tests}
 use Rattle.std.proofs.lemmas.List.{drop-map, length-map, take-map}
 use Rattle.byteorder.specs.Endian.{little_number}
@@ -10,150 +11,160 @@ use Rattle.ad_base.specs.declared.end.End.TheVariants as ends
 use Rattle.ad_base.specs.declared.layout.TheConstants.{FETCH_BYTES, GATE, MODULE_REGION, PAGE_BYTES, REGION_BYTES}
 use Rattle.ad_base.specs.declared.place.Place.{Place}
 use Rattle.ad_base.specs.Place.{base_of}
+use Rattle.ad_base.specs.Segments.{Fetch, Segment, Use, allows, bytes_from, holding, holds, in_region_1, reach, service_number, with_right}
 use Rattle.ad_isa.specs.Domain.{◌>>=◌}
-use Rattle.ad_core.specs.declared.bus.Fetched.{Fetched}
-use Rattle.ad_core.specs.declared.bus.Fetched.TheVariants.{Word}
-use Rattle.ad_core.specs.Plain.{word_or_end}
-use Rattle.ad_core.specs.Segments.{Segment, fetched, holding, holds, in_region_1, word_in}
-use Rattle.ad_symbolic.specs.Value.{is_outside, Byte, Number, OfAddress, offset_of}
+use Rattle.ad_isa.specs.Step.{Found, Word}
+use Rattle.ad_core.specs.declared.bus.Fetched.TheVariants as fetch
+use Rattle.ad_core.specs.Memory.{fetched, number_in, service_or, word_of}
+use Rattle.ad_core.specs.Plain.{found_or_end}
+use Rattle.ad_symbolic.specs.Value.{Byte, Number, OfAddress, is_outside, offset_of}
 use Rattle.ad_symbolic.specs.declared.value.Reason.TheVariants.{Address}
 use Rattle.ad_symbolic.specs.declared.value.Value.TheVariants.{At, Num}
 use Rattle.ad_symbolic.specs.declared.value.Part.TheVariants.{Movable, Stack}
+use Rattle.ad_symbolic.specs.declared.value.Part.{Part}
 use Rattle.ad_symbolic.specs.declared.value.Reason.{Reason}
 use Rattle.ad_symbolic.specs.declared.value.Value.{Value}
-use Rattle.ad_symbolic.specs.AddressSpace.{AddressSpace, SymbolicPiece, all_numbers, fetched_value, fixed_part, is_beside, is_within, movable_part, stack_part, word_from, word_of_pieces}
-use Rattle.ad_relate.specs.Stands.{Fits, IsApart, Places, byte_at, number_at, segments_at}
-use Rattle.ad_relate.proofs.Apart.{IsAlone, IsIn, Misses, fixed-alone, holding-missed, holding-none, movable-alone, segments_from, stack-alone}
+use Rattle.ad_symbolic.specs.AddressSpace.{AddressSpace, all_numbers, fetched_value, is_beside, part_bytes, reached_then, segments_in, word_from}
+use Rattle.ad_symbolic.specs.AddressSpace as symbolic
+use Rattle.ad_relate.specs.Stands.{Fits, IsApart, Places, base_at, byte_at, number_at, segment_at, segments_at}
+use Rattle.ad_relate.proofs.Apart.{IsAlone, IsIn, Misses, fixed-alone, holding-missed, holding-none, movable-alone, part_at, stack-alone}
+use Rattle.ad_relate.proofs.Values.{alignment, if-apart, if-each}
 
--- where there is a clear answer, it is this one
-abbrev Gives : {A : Type 0} → Result A Reason → A → Type 0
-Gives (Ok a) b = b ≡ a
-Gives (Err reason) b = Unit {0}
+-- the segment that is reached, so many bytes further on, or the same end
+abbrev pub reached_at : Places → ℕ → Result (Segment Byte) End → Result (Segment ℕ) End
+reached_at ps shift (Ok s) = Ok (segment_at ps shift s)
+reached_at ps shift (Err end) = Err end
 
--- and an answer that is clear is that one
-gives : {A : Type 0} (x : Result A Reason) (a b : A) → Gives x b → x ≡ Ok a → b ≡ a
-gives (Ok c) a b h e = cc
-gives (Err reason) a b h e = cc
+-- what an access reaches that is aligned
+abbrev pub aligned_reach : Use → List (Segment ℕ) → ℕ → Result (Segment ℕ) End
+aligned_reach wanted segments at = if in_region_1 at then Err ends.Fault else with_right wanted (holding segments at)
 
--- two choices by one test
-both : {A B : Type 0} (P : A → B → Type 0) (b c : Bool) (x y : A) (u v : B) → b ≡ c → P x u → P y v → P (cond b x y) (cond c u v)
-both P true c x y u v e px py = rw (← e) px
-both P false c x y u v e px py = rw (← e) py
+-- the same of an offset of a part of so many bytes
+abbrev pub offset_reach : Use → ℕ → List (Segment Byte) → ℕ → Result (Result (Segment Byte) End) Reason
+offset_reach wanted size part o = if nat_lt o size then Ok (with_right wanted (holding part o)) else (if is_beside size o then Ok (Err ends.Fault) else Err Address)
 
--- bytes that are numbers stand for these
-more-numbers : (n : ℕ) (x : Result (List ℕ) Reason) (ys : List ℕ) → Gives x ys → Gives (x >>= λ ns. Ok (n ∷ ns)) (n ∷ ys)
-more-numbers n (Ok ns) ys h = ap (λ ms. n ∷ ms) h
-more-numbers n (Err reason) ys h = tt
+-- and of a number
+abbrev pub number_reach : Use → AddressSpace → ℕ → Result (Result (Segment Byte) End) Reason
+number_reach wanted s n =
+    if is_outside n then Ok (Err ends.Fault)
+    else (if nat_le (base_of s.image.fixed) n && nat_lt n (base_of s.image.fixed + s.image.fixed.pages * PAGE_BYTES) then Ok (with_right wanted (holding s.fixed n))
+    else Err Address)
 
-numbers : (ps : Places) (bs : List Byte) → Gives (all_numbers bs) (map (byte_at ps) bs)
-numbers ps [] = refl
-numbers ps (Number n ∷ bs) = more-numbers n (all_numbers bs) (map (byte_at ps) bs) (numbers ps bs)
-numbers ps (OfAddress i p o ∷ bs) = tt
+-- What is reached from an offset or number is what is reached at the address, which lies so many bytes further on if there
+-- is a segment.
+pub record IsReached (ps : Places) (wanted : Use) (segments : List (Segment ℕ)) (shift o at : ℕ) (r : Result (Segment Byte) End) : Type 0 where
+  pub same : aligned_reach wanted segments at ≡ reached_at ps shift r
+  pub further : IfOk r (λ s. at ≡ shift + o)
 
--- a word is the number in its bytes
-word : (n : ℕ) (x : Result (List ℕ) Reason) (ys : List ℕ) → Gives x (take n ys) → Gives {A = Result ℕ End} (x >>= λ ns. Ok (Ok (little_number n ns))) (Ok (little_number n ys))
-word n (Ok ns) ys h = let same = sym (little_from-take 0 n n ys (omega arith)) ∙ ap (little_number n) h in λ j. Ok (same j)
-word n (Err reason) ys h = tt
+-- behind region 1 the segment that holds the address counts
+reach-behind : (wanted : Use) (segments : List (Segment ℕ)) (at : ℕ) → MODULE_REGION * REGION_BYTES ≤ at → aligned_reach wanted segments at ≡ with_right wanted (holding segments at)
+reach-behind wanted segments at from =
+    let no : in_region_1 at ≡ false = grind (arith, nat_tests) in
+    ap (λ (b : Bool). if b then Err ends.Fault else with_right wanted (holding segments at)) no
 
-word-bytes : (ps : Places) (n k : ℕ) (bs : List Byte) → Gives {A = Result ℕ End} (all_numbers (take n (drop k bs)) >>= λ ns. Ok (Ok (little_number n ns))) (Ok (little_number n (drop k (map (byte_at ps) bs))))
-word-bytes ps n k bs =
-    let same : map (byte_at ps) (take n (drop k bs)) ≡ take n (drop k (map (byte_at ps) bs)) = sym (take-map (byte_at ps) n (drop k bs)) ∙ ap (take n) (sym (drop-map (byte_at ps) k bs)) in
-    word n (all_numbers (take n (drop k bs))) (drop k (map (byte_at ps) bs)) (subst (λ ys. Gives (all_numbers (take n (drop k bs))) ys) same (numbers ps (take n (drop k bs))))
-
--- what is found is what the plain machine finds
-abbrev Finds : Result (Result ℕ End) Reason → Fetched → Type 0
-Finds x y = Gives x (word_or_end y)
-
--- two segments of the same bytes have the same word at the same place
-word-segment : (ps : Places) (b : SymbolicPiece) (base o start at : ℕ) → o - base ≡ at - start → Finds (word_from o (Some (record { base = base; bytes = b.bytes; rights = b.rights; role = b.role }))) (word_in at (Some (record { base = start; bytes = map (byte_at ps) b.bytes; rights = b.rights; role = b.role })))
-word-segment ps b base o start at e =
-    both Finds b.rights.fetch b.rights.fetch _ _ _ _ refl
-    (subst (λ k. Finds (all_numbers (take FETCH_BYTES (drop (o - base) b.bytes)) >>= λ ns. Ok (Ok (little_number FETCH_BYTES ns))) (Word (little_number FETCH_BYTES (drop k (map (byte_at ps) b.bytes))))) e (word-bytes ps FETCH_BYTES (o - base) b.bytes))
-    refl
-
--- an offset finds the segment that its address finds
-word-pieces : (ps : Places) (bs : List SymbolicPiece) (shift base o start at : ℕ) → start ≡ shift + base → at ≡ shift + o → Finds (word_of_pieces base bs o) (word_in at (holding (segments_from ps start bs) at))
-word-pieces ps [] shift base o start at e f = refl
-word-pieces ps (b ∷ bs) shift base o start at e f =
-    let long = length-map b.bytes (byte_at ps) in
-    both (λ x y. Finds (word_from o x) (word_in at y)) (is_within o (record { base = base; bytes = b.bytes; rights = b.rights; role = b.role })) (holds at (record { base = start; bytes = map (byte_at ps) b.bytes; rights = b.rights; role = b.role })) _ _ _ _
-    (grind (arith, nat_tests))
-    (word-segment ps b base o start at (omega arith))
-    (word-pieces ps bs shift (base + length b.bytes) o (start + length (map (byte_at ps) b.bytes)) at (omega arith) f)
-
--- behind region 1 the word of the segment that holds the address is found
-fetched-behind : (segments : List Segment) (at : ℕ) → MODULE_REGION * REGION_BYTES ≤ at → fetched segments at ≡ word_in at (holding segments at)
-unfolding fetched
-fetched-behind segments at behind = grind (arith, nat_tests)
+either-way : {A : Type 0} (b : Bool) (x : A) → (if b then x else x) ≡ x
+either-way true x = refl
+either-way false x = refl
 
 -- an address that no segment holds is a fault
-fetched-none : (segments : List Segment) (at : ℕ) → holding segments at ≡ None → word_or_end (fetched segments at) ≡ Err ends.Fault
-unfolding fetched
-fetched-none segments at none =
-    cond_both (at == GATE) _ _ (λ x. word_or_end x ≡ Err ends.Fault) (λ e. refl)
-    (λ e. cond_both (in_region_1 at) _ _ (λ x. word_or_end x ≡ Err ends.Fault) (λ f. refl) (λ f. ap (λ x. word_or_end (word_in at x)) none))
+reach-none : (wanted : Use) (segments : List (Segment ℕ)) (at : ℕ) → holding segments at ≡ None → aligned_reach wanted segments at ≡ Err ends.Fault
+reach-none wanted segments at none = ap (λ x. if in_region_1 at then Err ends.Fault else with_right wanted x) none ∙ either-way (in_region_1 at) (Err ends.Fault)
 
--- what is found at an offset of a part of so many bytes
-abbrev found_at : ℕ → List SymbolicPiece → ℕ → Result (Result ℕ End) Reason
-found_at size bs o = if nat_lt o size then word_of_pieces 0 bs o else (if is_beside size o then Ok (Err ends.Fault) else Err Address)
+module _ (ps : Places) (wanted : Use) where
+  -- the segment that holds an address has the right where the one that it stands for has
+  right-by : (shift : ℕ) (a b : Bool) (s : Segment Byte) (x : Option (Segment ℕ)) (y : Option (Segment Byte)) → a ≡ b → with_right wanted x ≡ reached_at ps shift (with_right wanted y)
+      → with_right wanted (if a then Some (segment_at ps shift s) else x) ≡ reached_at ps shift (with_right wanted (if b then Some s else y))
+  right-by shift true true s x y e rest = sym (if-apart (reached_at ps shift) (allows wanted s.rights) (Ok s) (Err ends.Denied))
+  right-by shift false false s x y e rest = rest
+  right-by shift true false s x y e rest = absurd cc
+  right-by shift false true s x y e rest = absurd cc
 
-module _ (ps : Places) (segments : List Segment) (q : Place) (bs : List SymbolicPiece) (only : IsAlone ps segments q bs) where
-  -- an address in the region of a part finds what its offset finds
-  finds-alone : (shift base o at : ℕ) → base_of q ≡ shift + base → at ≡ shift + o → IsIn q.region at → Finds (word_of_pieces base bs o) (fetched segments at)
-  finds-alone shift base o at e f here =
-      let behind : MODULE_REGION * REGION_BYTES ≤ at = omega (arith, only.fills.place.region_from, here.from) in
-      let same : fetched segments at ≡ word_in at (holding (segments_from ps (base_of q) bs) at) = fetched-behind segments at behind ∙ ap (word_in at) (only.alone at here) in
-      subst (λ x. Finds (word_of_pieces base bs o) x) (sym same) (word-pieces ps bs shift base o (base_of q) at e f)
+  right-at : (shift o : ℕ) (part : List (Segment Byte)) → with_right wanted (holding (part_at ps shift part) (shift + o)) ≡ reached_at ps shift (with_right wanted (holding part o))
+  right-at shift o [] = refl
+  right-at shift o (s ∷ part) =
+      let long = length-map s.bytes (byte_at ps) in
+      right-by shift (holds (shift + o) (segment_at ps shift s)) (holds o s) s (holding (part_at ps shift part) (shift + o)) (holding part o) (grind (arith, nat_tests, long)) (right-at shift o part)
 
-  -- one that is beside the part is a fault
-  fault-beside : (at : ℕ) → IsIn q.region at → Misses q at → word_or_end (fetched segments at) ≡ Err ends.Fault
-  fault-beside at here beside = fetched-none segments at (only.alone at here ∙ holding-missed ps q bs at only.fills beside)
+  module _ (segments : List (Segment ℕ)) (q : Place) (shift : ℕ) (part : List (Segment Byte)) (only : IsAlone segments (part_at ps shift part) q) where
+    -- the region of a part lies behind region 1
+    behind : (at : ℕ) → IsIn q.region at → MODULE_REGION * REGION_BYTES ≤ at
+    behind at here = omega (arith, only.fills.place.region_from, here.from)
 
-  -- an offset inside the part
-  finds-inside : (o : ℕ) → o < q.pages * PAGE_BYTES → Finds (word_of_pieces 0 bs o) (fetched segments ((base_of q + o) % 2 ^ 64))
-  finds-inside o inside =
-      let place = only.fills.place in
-      let whole : (base_of q + o) % 2 ^ 64 ≡ base_of q + o = mod-eq_of_lt (omega (arith, place.region_to, place.page_behind)) in
-      finds-alone (base_of q) 0 o ((base_of q + o) % 2 ^ 64) (omega arith) whole
-      (record { from = omega (arith, whole); to = omega (arith, whole, place.page_behind) })
+    -- an address in the region of a part reaches what its offset reaches
+    reaches-alone : (o at : ℕ) → at ≡ shift + o → IsIn q.region at → IsReached ps wanted segments shift o at (with_right wanted (holding part o))
+    reaches-alone o at e here = record {
+      same = reach-behind wanted segments at (behind at here) ∙ ap (with_right wanted) (only.alone at here) ∙ ap (λ n. with_right wanted (holding (part_at ps shift part) n)) e ∙ right-at shift o part;
+      further = further (with_right wanted (holding part o));
+    }
+      where
+        further : (r : Result (Segment Byte) End) → IfOk r (λ s. at ≡ shift + o)
+        further (Ok s) = e
+        further (Err end) = tt
 
-  -- an offset at most a page before the part
-  fault-before : (o : ℕ) → 2 ^ 64 - PAGE_BYTES ≤ o → o < 2 ^ 64 → word_or_end (fetched segments ((base_of q + o) % 2 ^ 64)) ≡ Err ends.Fault
-  fault-before o near below =
-      let place = only.fills.place in
-      let back : (base_of q + o) % 2 ^ 64 + 2 ^ 64 ≡ base_of q + o = omega (arith, place.region_to, place.page_before, place.page_behind) in
-      fault-beside ((base_of q + o) % 2 ^ 64)
-      (record { from = omega (arith, back, place.page_before); to = omega (arith, back, place.page_behind) })
-      (inl (omega (arith, back)))
+    -- one that is beside the part is a fault
+    fault-beside : (o at : ℕ) → IsIn q.region at → Misses q at → IsReached ps wanted segments shift o at (Err ends.Fault)
+    fault-beside o at here beside = record { same = reach-none wanted segments at (only.alone at here ∙ holding-missed q (part_at ps shift part) at only.fills beside); further = tt }
 
-  -- an offset less than a page behind the part
-  fault-behind : (o : ℕ) → q.pages * PAGE_BYTES ≤ o → o < q.pages * PAGE_BYTES + PAGE_BYTES → word_or_end (fetched segments ((base_of q + o) % 2 ^ 64)) ≡ Err ends.Fault
-  fault-behind o past near =
-      let place = only.fills.place in
-      let whole : (base_of q + o) % 2 ^ 64 ≡ base_of q + o = mod-eq_of_lt (omega (arith, place.region_to, place.page_behind)) in
-      fault-beside ((base_of q + o) % 2 ^ 64)
-      (record { from = omega (arith, whole); to = omega (arith, whole, place.page_behind) })
-      (inr (omega (arith, whole)))
+  module _ (segments : List (Segment ℕ)) (q : Place) (part : List (Segment Byte)) (only : IsAlone segments (part_at ps (base_of q) part) q) where
+    -- what an offset of the part reaches is reached at its address, which lies behind region 1
+    abbrev OffsetReached : ℕ → Result (Segment Byte) End → Type 0
+    OffsetReached o r = IsReached ps wanted segments (base_of q) o ((base_of q + o) % 2 ^ 64) r × (MODULE_REGION * REGION_BYTES ≤ (base_of q + o) % 2 ^ 64)
 
-  -- either of these
-  fault-there : (o : ℕ) → o < 2 ^ 64 → q.pages * PAGE_BYTES ≤ o → is_beside (q.pages * PAGE_BYTES) o ≡ true → word_or_end (fetched segments ((base_of q + o) % 2 ^ 64)) ≡ Err ends.Fault
-  fault-there o below past beside = elim (cases_lt o (2 ^ 64 - PAGE_BYTES)) [
-    | inl low ↦ fault-behind o past (grind (arith, nat_tests))
-    | inr near ↦ fault-before o near below
-  ]
+    -- an offset inside the part, or less than a page behind it
+    whole : (o : ℕ) → o < q.pages * PAGE_BYTES + PAGE_BYTES → (base_of q + o) % 2 ^ 64 ≡ base_of q + o
+    whole o below = let place = only.fills.place in mod-eq_of_lt (omega (arith, place.region_to, place.page_behind))
 
-  -- what is found at an offset of the part is found at its address
-  finds-offset : (o : ℕ) → o < 2 ^ 64 → Gives (found_at (q.pages * PAGE_BYTES) bs o) (word_or_end (fetched segments ((base_of q + o) % 2 ^ 64)))
-  finds-offset o below =
-      let at = (base_of q + o) % 2 ^ 64 in
-      let P : Result (Result ℕ End) Reason → Type 0 = λ x. Gives x (word_or_end (fetched segments at)) in
-      cond_both (nat_lt o (q.pages * PAGE_BYTES)) _ _ P
-      (λ inside. finds-inside o (ltb-true o (q.pages * PAGE_BYTES) inside))
-      (λ outside. cond_both (is_beside (q.pages * PAGE_BYTES) o) _ _ P
-      (λ beside. fault-there o below (ltb-false o (q.pages * PAGE_BYTES) outside) beside)
-      (λ far. tt))
+    reaches-inside : (o : ℕ) → o < q.pages * PAGE_BYTES → OffsetReached o (with_right wanted (holding part o))
+    reaches-inside o inside =
+        let place = only.fills.place in
+        let there = whole o (omega (arith, inside)) in
+        let here : IsIn q.region ((base_of q + o) % 2 ^ 64) = record { from = omega (arith, there); to = omega (arith, there, place.page_behind) } in
+        (reaches-alone segments q (base_of q) part only o ((base_of q + o) % 2 ^ 64) there here, behind segments q (base_of q) part only ((base_of q + o) % 2 ^ 64) here)
 
-module _ (space : AddressSpace) (ps : Places) (apart : IsApart space.image ps) (fits : Fits space) where
+    missed : (o : ℕ) → IsIn q.region ((base_of q + o) % 2 ^ 64) → Misses q ((base_of q + o) % 2 ^ 64) → OffsetReached o (Err ends.Fault)
+    missed o here beside = (fault-beside segments q (base_of q) part only o ((base_of q + o) % 2 ^ 64) here beside, behind segments q (base_of q) part only ((base_of q + o) % 2 ^ 64) here)
+
+    -- an offset at most a page before the part
+    fault-before : (o : ℕ) → 2 ^ 64 - PAGE_BYTES ≤ o → o < 2 ^ 64 → OffsetReached o (Err ends.Fault)
+    fault-before o near below =
+        let place = only.fills.place in
+        let back : (base_of q + o) % 2 ^ 64 + 2 ^ 64 ≡ base_of q + o = omega (arith, place.region_to, place.page_before, place.page_behind) in
+        missed o (record { from = omega (arith, back, place.page_before); to = omega (arith, back, place.page_behind) }) (inl (omega (arith, back)))
+
+    -- an offset less than a page behind the part
+    fault-behind : (o : ℕ) → q.pages * PAGE_BYTES ≤ o → o < q.pages * PAGE_BYTES + PAGE_BYTES → OffsetReached o (Err ends.Fault)
+    fault-behind o past near =
+        let place = only.fills.place in
+        let there = whole o near in
+        missed o (record { from = omega (arith, there); to = omega (arith, there, place.page_behind) }) (inr (omega (arith, there)))
+
+    -- either of these
+    fault-there : (o : ℕ) → o < 2 ^ 64 → q.pages * PAGE_BYTES ≤ o → is_beside (q.pages * PAGE_BYTES) o ≡ true → OffsetReached o (Err ends.Fault)
+    fault-there o below past beside = elim (cases_lt o (2 ^ 64 - PAGE_BYTES)) [
+      | inl low ↦ fault-behind o past (grind (arith, nat_tests))
+      | inr near ↦ fault-before o near below
+    ]
+
+    reaches-offset : (o : ℕ) → o < 2 ^ 64 → IfOk (offset_reach wanted (q.pages * PAGE_BYTES) part o) (OffsetReached o)
+    reaches-offset o below =
+        let P : Result (Result (Segment Byte) End) Reason → Type 0 = λ x. IfOk x (OffsetReached o) in
+        cond_both (nat_lt o (q.pages * PAGE_BYTES)) _ _ P
+        (λ inside. reaches-inside o (ltb-true o (q.pages * PAGE_BYTES) inside))
+        (λ outside. cond_both (is_beside (q.pages * PAGE_BYTES) o) _ _ P
+        (λ beside. fault-there o below (ltb-false o (q.pages * PAGE_BYTES) outside) beside)
+        (λ far. tt))
+
+module _ (space : AddressSpace) (ps : Places) (apart : IsApart space.image ps) (fits : Fits space) (wanted : Use) where
+  -- what an offset of a part reaches
+  pub reaches-part : (p : Part) (o : ℕ) → o < 2 ^ 64 → IfOk (offset_reach wanted (part_bytes space.image p) (segments_in space p) o)
+      (λ r. IsReached ps wanted (segments_at ps space) (base_at ps p) o (number_at ps (At p o)) r × (MODULE_REGION * REGION_BYTES ≤ number_at ps (At p o)))
+  reaches-part Movable o below =
+      subst (λ pages. IfOk (offset_reach wanted (pages * PAGE_BYTES) space.movable o) (OffsetReached ps wanted (segments_at ps space) ps.movable space.movable (movable-alone space ps apart fits) o)) apart.movable_size
+      (reaches-offset ps wanted (segments_at ps space) ps.movable space.movable (movable-alone space ps apart fits) o below)
+  reaches-part Stack o below =
+      subst (λ pages. IfOk (offset_reach wanted (pages * PAGE_BYTES) space.stack o) (OffsetReached ps wanted (segments_at ps space) ps.stack space.stack (stack-alone space ps apart fits) o)) apart.stack_size
+      (reaches-offset ps wanted (segments_at ps space) ps.stack space.stack (stack-alone space ps apart fits) o below)
+
   -- a number in the immovable part is in its region
   inside-fixed : (n : ℕ) → (nat_le (base_of space.image.fixed) n && nat_lt n (base_of space.image.fixed + space.image.fixed.pages * PAGE_BYTES)) ≡ true → IsIn space.image.fixed.region n
   inside-fixed n inside =
@@ -162,33 +173,116 @@ module _ (space : AddressSpace) (ps : Places) (apart : IsApart space.image ps) (
       let high : n < base_of space.image.fixed + space.image.fixed.pages * PAGE_BYTES = grind (arith, nat_tests) in
       record { from = omega (arith, low); to = omega (arith, high, place.page_behind) }
 
-  -- what is found at a number is found there
-  finds-number : (n : ℕ) → Gives (if is_outside n then Ok (Err ends.Fault) else (if nat_le (base_of space.image.fixed) n && nat_lt n (base_of space.image.fixed + space.image.fixed.pages * PAGE_BYTES) then word_of_pieces (base_of space.image.fixed) (fixed_part space) n else Err Address)) (word_or_end (fetched (segments_at ps space) n))
-  finds-number n =
+  -- what a number reaches
+  pub reaches-number : (n : ℕ) → IfOk (number_reach wanted space n) (IsReached ps wanted (segments_at ps space) 0 n n)
+  reaches-number n =
       let q = space.image.fixed in
-      let P : Result (Result ℕ End) Reason → Type 0 = λ x. Gives x (word_or_end (fetched (segments_at ps space) n)) in
+      let P : Result (Result (Segment Byte) End) Reason → Type 0 = λ x. IfOk x (IsReached ps wanted (segments_at ps space) 0 n n) in
       cond_both (is_outside n) _ _ P
-      (λ out. fetched-none (segments_at ps space) n (holding-none space ps apart fits n (grind (arith, nat_tests))))
+      (λ out. record { same = reach-none wanted (segments_at ps space) n (holding-none space ps apart fits n (grind (arith, nat_tests))); further = tt })
       (λ in_regions. cond_both (nat_le (base_of q) n && nat_lt n (base_of q + q.pages * PAGE_BYTES)) _ _ P
-      (λ inside. finds-alone ps (segments_at ps space) q (fixed_part space) (fixed-alone space ps apart fits) 0 (base_of q) n n (omega arith) (omega arith) (inside-fixed n inside))
+      (λ inside. reaches-alone ps wanted (segments_at ps space) q 0 space.fixed (fixed-alone space ps apart fits) n n (omega arith) (inside-fixed n inside))
       (λ beside. tt))
 
+-- bytes that are numbers stand for these
+more-numbers : (n : ℕ) (x : Result (List ℕ) Reason) (ys : List ℕ) → IfOk x (λ ns. ys ≡ ns) → IfOk (x >>= λ ns. Ok (n ∷ ns)) (λ ns. n ∷ ys ≡ ns)
+more-numbers n (Ok ns) ys h = ap (λ ms. n ∷ ms) h
+more-numbers n (Err reason) ys h = tt
+
+numbers : (ps : Places) (bs : List Byte) → IfOk (all_numbers bs) (λ ns. map (byte_at ps) bs ≡ ns)
+numbers ps [] = refl
+numbers ps (Number n ∷ bs) = more-numbers n (all_numbers bs) (map (byte_at ps) bs) (numbers ps bs)
+numbers ps (OfAddress i p o ∷ bs) = tt
+
+-- where it is clear what is found, it is this
+abbrev Finds : Result (Result Found End) Reason → Result Found End → Type 0
+Finds x found = IfOk x (λ clear. found ≡ clear)
+
+-- a word is the number in its bytes
+word : (n : ℕ) (x : Result (List ℕ) Reason) (ys : List ℕ) → IfOk x (λ ns. take n ys ≡ ns) → Finds (x >>= λ ns. Ok (Ok (Word (little_number n ns)))) (Ok (Word (little_number n ys)))
+word n (Ok ns) ys h = let same = sym (little_from-take 0 n n ys (omega arith)) ∙ ap (little_number n) h in λ j. Ok (Word (same j))
+word n (Err reason) ys h = tt
+
+-- two segments of the same bytes have the same word at the same place
+word-at : (ps : Places) (shift o at : ℕ) (s : Segment Byte) → at ≡ shift + o → Finds (word_from o s) (Ok (Word (number_in FETCH_BYTES at (segment_at ps shift s))))
+word-at ps shift o at s e =
+    let k = o - s.base in
+    let place : at - (shift + s.base) ≡ k = omega (arith, e) in
+    let bytes : map (byte_at ps) (take FETCH_BYTES (drop k s.bytes)) ≡ take FETCH_BYTES (bytes_from at (segment_at ps shift s)) =
+    sym (take-map (byte_at ps) FETCH_BYTES (drop k s.bytes)) ∙ ap (take FETCH_BYTES) (sym (drop-map (byte_at ps) k s.bytes)) ∙ ap (λ n. take FETCH_BYTES (drop n (map (byte_at ps) s.bytes))) (sym place) in
+    word FETCH_BYTES (all_numbers (take FETCH_BYTES (drop k s.bytes))) (bytes_from at (segment_at ps shift s)) (subst (λ ys. IfOk (all_numbers (take FETCH_BYTES (drop k s.bytes))) (λ ns. ys ≡ ns)) bytes (numbers ps (take FETCH_BYTES (drop k s.bytes))))
+
+-- the word of the segment that is reached, or the same end
+abbrev word_or_end : ℕ → Result (Segment ℕ) End → Result Found End
+word_or_end at (Ok s) = Ok (Word (number_in FETCH_BYTES at s))
+word_or_end at (Err end) = Err end
+
+-- a fetch that is aligned ends with a fault, or for want of the right
+found-reached : (at : ℕ) (first : Bool) (x : Option (Segment ℕ)) → found_or_end (word_of at (if first then Err ends.Fault else with_right Fetch x)) ≡ word_or_end at (if first then Err ends.Fault else with_right Fetch x)
+found-reached at true x = refl
+found-reached at false None = refl
+found-reached at false (Some s) = by s.rights.fetch
+  where
+    by : (b : Bool) → found_or_end (word_of at (if b then Ok s else Err ends.Denied)) ≡ word_or_end at (if b then Ok s else Err ends.Denied)
+    by true = refl
+    by false = refl
+
+reach-aligned : (segments : List (Segment ℕ)) (at : ℕ) → at % FETCH_BYTES ≡ 0 → reach Fetch FETCH_BYTES segments at ≡ aligned_reach Fetch segments at
+reach-aligned segments at aligned = ap (λ (b : Bool). if b then aligned_reach Fetch segments at else Err ends.Misaligned) (eq-eqb (at % FETCH_BYTES) 0 aligned)
+
+found-aligned : (segments : List (Segment ℕ)) (at : ℕ) → at % FETCH_BYTES ≡ 0 → found_or_end (word_of at (reach Fetch FETCH_BYTES segments at)) ≡ word_or_end at (aligned_reach Fetch segments at)
+found-aligned segments at aligned = ap (λ r. found_or_end (word_of at r)) (reach-aligned segments at aligned) ∙ found-reached at (in_region_1 at) (holding segments at)
+
+-- behind region 1 there is no gate and no service
+fetched-behind : (segments : List (Segment ℕ)) (at : ℕ) → MODULE_REGION * REGION_BYTES ≤ at → at % FETCH_BYTES ≡ 0 → found_or_end (fetched segments at) ≡ word_or_end at (aligned_reach Fetch segments at)
+unfolding fetched
+fetched-behind segments at from aligned =
+    let gate : (at == GATE) ≡ false = grind (arith, nat_tests) in
+    let service : service_number at ≡ None = grind (arith, nat_tests) in
+    ap (λ (b : Bool). found_or_end (if b then fetch.Gate else service_or (service_number at) (word_of at (reach Fetch FETCH_BYTES segments at)))) gate
+    ∙ ap (λ x. found_or_end (service_or x (word_of at (reach Fetch FETCH_BYTES segments at)))) service
+    ∙ found-aligned segments at aligned
+
+-- what is found where this is reached
+finds-reached : (ps : Places) (segments : List (Segment ℕ)) (shift o at : ℕ) (r : Result (Segment Byte) End) → IsReached ps Fetch segments shift o at r → Finds (reached_then (Ok r) (word_from o)) (word_or_end at (aligned_reach Fetch segments at))
+finds-reached ps segments shift o at (Ok s) is =
+    subst (λ x. Finds (word_from o s) (word_or_end at x)) (sym is.same) (word-at ps shift o at s is.further)
+finds-reached ps segments shift o at (Err end) is = ap (word_or_end at) is.same
+
+module _ (space : AddressSpace) (ps : Places) (apart : IsApart space.image ps) (fits : Fits space) where
+  -- what is found where the plain machine fetches
+  abbrev there : ℕ → Result Found End
+  there at = found_or_end (fetched (segments_at ps space) at)
+
+  finds-offset : (p : Part) (o : ℕ) (r : Result (Result (Segment Byte) End) Reason) → number_at ps (At p o) % FETCH_BYTES ≡ 0
+      → IfOk r (λ r. IsReached ps Fetch (segments_at ps space) (base_at ps p) o (number_at ps (At p o)) r × (MODULE_REGION * REGION_BYTES ≤ number_at ps (At p o)))
+      → Finds (reached_then r (word_from o)) (there (number_at ps (At p o)))
+  finds-offset p o (Ok r) aligned is =
+      let at = number_at ps (At p o) in
+      subst (λ x. Finds (reached_then (Ok r) (word_from o)) x) (sym (fetched-behind (segments_at ps space) at is.1 aligned)) (finds-reached ps (segments_at ps space) (base_at ps p) o at r is.0)
+  finds-offset p o (Err reason) aligned is = tt
+
+  finds-number : (n : ℕ) (r : Result (Result (Segment Byte) End) Reason) (service : Option ℕ) → n % FETCH_BYTES ≡ 0 → IfOk r (IsReached ps Fetch (segments_at ps space) 0 n n)
+      → Finds (symbolic.service_or service (reached_then r (word_from n))) (found_or_end (service_or service (word_of n (reach Fetch FETCH_BYTES (segments_at ps space) n))))
+  finds-number n r (Some number) aligned is = refl
+  finds-number n (Ok r) None aligned is =
+      subst (λ x. Finds (reached_then (Ok r) (word_from n)) x) (sym (found-aligned (segments_at ps space) n aligned)) (finds-reached ps (segments_at ps space) 0 n n r is)
+  finds-number n (Err reason) None aligned is = tt
+
   -- where the symbolic machine has a clear answer, the plain machine has the same
-  gives-fetched : (v : Value) → offset_of v < 2 ^ 64 → offset_of v % FETCH_BYTES ≡ 0 → Gives (fetched_value space v) (word_or_end (fetched (segments_at ps space) (number_at ps v)))
-  unfolding fetched_value
-  gives-fetched (Num n) below aligned =
-      cond_both (n % FETCH_BYTES == 0) _ _ (λ x. Gives x (word_or_end (fetched (segments_at ps space) n))) (λ e. finds-number n) (λ odd. absurd (grind (arith, nat_tests)))
-  gives-fetched (At Movable o) below aligned =
-      let P : Result (Result ℕ End) Reason → Type 0 = λ x. Gives x (word_or_end (fetched (segments_at ps space) ((base_of ps.movable + o) % 2 ^ 64))) in
-      cond_both (o % FETCH_BYTES == 0) _ _ P
-      (λ e. subst (λ pages. P (found_at (pages * PAGE_BYTES) (movable_part space) o)) apart.movable_size (finds-offset ps (segments_at ps space) ps.movable (movable_part space) (movable-alone space ps apart fits) o below))
-      (λ odd. absurd (grind (arith, nat_tests)))
-  gives-fetched (At Stack o) below aligned =
-      let P : Result (Result ℕ End) Reason → Type 0 = λ x. Gives x (word_or_end (fetched (segments_at ps space) ((base_of ps.stack + o) % 2 ^ 64))) in
-      cond_both (o % FETCH_BYTES == 0) _ _ P
-      (λ e. subst (λ pages. P (found_at (pages * PAGE_BYTES) (stack_part space) o)) apart.stack_size (finds-offset ps (segments_at ps space) ps.stack (stack_part space) (stack-alone space ps apart fits) o below))
-      (λ odd. absurd (grind (arith, nat_tests)))
+  finds : (v : Value) → offset_of v < 2 ^ 64 → offset_of v % FETCH_BYTES ≡ 0 → Finds (fetched_value space v) (there (number_at ps v))
+  unfolding fetched_value fetched
+  finds (Num n) below aligned =
+      cond_both (n == GATE) fetch.Gate (service_or (service_number n) (word_of n (reach Fetch FETCH_BYTES (segments_at ps space) n))) (λ x. Finds (fetched_value space (Num n)) (found_or_end x))
+      (λ gate. let same = eqb-true n GATE gate in subst (λ k. Finds (fetched_value space (Num k)) (Err ends.Fault)) (sym same) refl)
+      (λ away. cond_both (n % FETCH_BYTES == 0) (number_reach Fetch space n) (Ok (Err ends.Misaligned))
+      (λ x. Finds (symbolic.service_or (service_number n) (reached_then x (word_from n))) (found_or_end (service_or (service_number n) (word_of n (reach Fetch FETCH_BYTES (segments_at ps space) n)))))
+      (λ e. finds-number n (number_reach Fetch space n) (service_number n) aligned (reaches-number space ps apart fits Fetch n)) (λ odd. absurd (grind (arith, nat_tests))))
+  finds (At p o) below aligned =
+      cond_both (o % FETCH_BYTES == 0) (offset_reach Fetch (part_bytes space.image p) (segments_in space p) o) (Ok (Err ends.Misaligned))
+      (λ x. Finds (reached_then x (word_from o)) (there (number_at ps (At p o))))
+      (λ e. finds-offset p o (offset_reach Fetch (part_bytes space.image p) (segments_in space p) o) (alignment ps (At p o) ∙ aligned) (reaches-part space ps apart fits Fetch p o below)) (λ odd. absurd (grind (arith, nat_tests)))
 
 -- An address at an offset of 2^64 or more would stand for the number of a lower offset: those are left out.
-pub fetch-stands : (space : AddressSpace) (ps : Places) → IsApart space.image ps → Fits space → (v : Value) (found : Result ℕ End) → offset_of v < 2 ^ 64 → offset_of v % FETCH_BYTES ≡ 0 → fetched_value space v ≡ Ok found → word_or_end (fetched (segments_at ps space) (number_at ps v)) ≡ found
-fetch-stands space ps apart fits v found below aligned is = gives (fetched_value space v) found (word_or_end (fetched (segments_at ps space) (number_at ps v))) (gives-fetched space ps apart fits v below aligned) is
+pub fetch-stands : (space : AddressSpace) (ps : Places) → IsApart space.image ps → Fits space → (v : Value) (found : Result Found End) → offset_of v < 2 ^ 64 → offset_of v % FETCH_BYTES ≡ 0 → fetched_value space v ≡ Ok found → found_or_end (fetched (segments_at ps space) (number_at ps v)) ≡ found
+fetch-stands space ps apart fits v found below aligned is = if-each (λ x. found_or_end (fetched (segments_at ps space) (number_at ps v)) ≡ x) (fetched_value space v) found (finds space ps apart fits v below aligned) is

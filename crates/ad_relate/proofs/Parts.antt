@@ -1,31 +1,32 @@
--- What the parts of an address space stand for: the pieces of the plain machine's parts, which are as long.
-use Rattle.std.proofs.Common.{◌≡◌, ℕ, zero, suc, ◌+◌, ◌-◌, ◌*◌, ◌≤◌, List, [], ◌∷◌, ◌++◌, length, map, take, drop, replicate, flat_map, sym, refl, ap, ◌∙◌, arith, length-take, length-drop}
-use Rattle.std.proofs.lemmas.List.{length-map, map-append}
+-- What the parts of an address space stand for: the plain machine's pieces, which are as long.
+use Rattle.std.proofs.Common.{◌≡◌, ℕ, zero, suc, ◌+◌, ◌-◌, ◌*◌, List, [], ◌∷◌, ◌++◌, length, map, take, drop, replicate, flat_map, sym, refl, ap, ◌∙◌, arith}
+use Rattle.std.proofs.lemmas.List.{length-map, length-replicate, map-append}
 use Rattle.byteorder.specs.Endian.{little_bytes}
 use Rattle.byteorder.specs.Numbers.{length-bytes_low_first}
 use Rattle.ad_base.specs.declared.image.Cell.{Cell}
 use Rattle.ad_base.specs.declared.image.Cell.TheVariants.{Off, Num as Constant}
-use Rattle.ad_base.specs.declared.layout.TheConstants.{PAGE_BYTES, STACK_PAGES, WORD_BYTES}
-use Rattle.ad_base.specs.Image.{IsWhole, fixed_pages, movable_pages, zeros}
+use Rattle.ad_base.specs.declared.image.Image.{Image}
+use Rattle.ad_base.specs.declared.layout.TheConstants.{LOCAL_PAGES, PAGE_BYTES, STACK_PAGES, WORD_BYTES}
+use Rattle.ad_base.specs.declared.role.Role.{Role}
+use Rattle.ad_base.specs.declared.role.Role.TheVariants.{Cells, Code, Constants, Data, FixedCode, FixedConstants, FixedData, FixedTable, Stack, Table}
+use Rattle.ad_base.specs.Image.{IsWhole, zeros}
+use Rattle.ad_base.specs.Layout.{extents_from, fixed_roles, laid_out, local_word, movable_roles, page_of_words, rights_of, size_of, stack_roles, text_bytes}
 use Rattle.ad_base.specs.Place.{base_of}
+use Rattle.ad_base.proofs.Extents.{extents-laid_out}
 use Rattle.ad_base.proofs.Lists.{length-filled, length-flat_map_equal}
-use Rattle.ad_core.specs.Image.{Piece, code_rights, constant_rights, data_rights, fixed_pieces, local_word, movable_pieces, page_of_words, text_bytes}
-use Rattle.ad_core.specs.Segments.{Cells, Code, Constants, Data, FixedCode, FixedConstants, FixedData, FixedTable, Table}
-use Rattle.ad_core.proofs.Pages.{length-page_of_words}
-use Rattle.ad_symbolic.specs.Value.{Number}
-use Rattle.ad_symbolic.specs.AddressSpace.{AddressSpace, SymbolicPiece, cell_bytes, fixed_part, local_page, movable_part, numbers_of, stack_part}
-use Rattle.ad_relate.specs.Stands.{Fits, Places, byte_at}
-
--- the piece that a piece of a part stands for
-abbrev pub piece_at : Places → SymbolicPiece → Piece
-piece_at ps b = record { bytes = map (byte_at ps) b.bytes; rights = b.rights; role = b.role }
+use Rattle.ad_base.proofs.Pieces.{length-bytes_of}
+use Rattle.ad_core.specs.Image.{bytes_under, segments_of, fresh_stack as zero_stack}
+use Rattle.ad_symbolic.specs.Value.{Byte, Number}
+use Rattle.ad_symbolic.specs.AddressSpace.{bytes_in, cell_bytes, local_page, numbers_of, space_of}
+use Rattle.ad_symbolic.specs.Machine.{fresh_stack}
+use Rattle.ad_relate.specs.Stands.{Fits, Places, byte_at, segment_at, segments_at}
 
 -- bytes that are numbers stand for these
 pub bytes-at : (ps : Places) (ns : List ℕ) → map (byte_at ps) (numbers_of ns) ≡ ns
 bytes-at ps [] = refl
 bytes-at ps (n ∷ ns) = λ j. n ∷ bytes-at ps ns j
 
-pub zeros-at : (ps : Places) (n : ℕ) → map (byte_at ps) (replicate n (Number 0)) ≡ zeros n
+zeros-at : (ps : Places) (n : ℕ) → map (byte_at ps) (replicate n (Number 0)) ≡ zeros n
 unfolding zeros
 zeros-at ps zero = refl
 zeros-at ps (suc n) = λ j. 0 ∷ zeros-at ps n j
@@ -48,52 +49,57 @@ local-at ps cs =
     ∙ (λ j. same j ++ zeros-at ps (PAGE_BYTES - length bytes) j)
     ∙ ap (λ n. flat_map (little_bytes WORD_BYTES) (map (local_word (base_of ps.movable)) cs) ++ zeros (PAGE_BYTES - n)) long
 
-pub movable-stands : (ps : Places) (space : AddressSpace) → map (piece_at ps) (movable_part space) ≡ movable_pieces space.image (base_of ps.movable) (map (byte_at ps) space.writable)
-movable-stands ps space = λ j.
-    record { bytes = bytes-at ps (take (text_bytes space.image.text_pages) space.image.code) j; rights = code_rights; role = Code }
-    ∷ record { bytes = bytes-at ps (drop (text_bytes space.image.text_pages) space.image.code) j; rights = constant_rights; role = Constants }
-    ∷ record { bytes = bytes-at ps (page_of_words space.image.table) j; rights = constant_rights; role = Table }
-    ∷ record { bytes = local-at ps space.image.cells j; rights = constant_rights; role = Cells }
-    ∷ record { bytes = map (byte_at ps) space.writable; rights = data_rights; role = Data } ∷ []
+-- pieces stand for the pieces of what they hold, so many bytes further on
+pieces-at : (ps : Places) (shift : ℕ) (bytes : Role → List Byte) (numbers : Role → List ℕ) → ((r : Role) → map (byte_at ps) (bytes r) ≡ numbers r)
+    → (base : ℕ) (roles : List Role) → map (segment_at ps shift) (laid_out base bytes roles) ≡ laid_out (shift + base) numbers roles
+pieces-at ps shift bytes numbers same base [] = refl
+pieces-at ps shift bytes numbers same base (r ∷ rs) =
+    let long : length (bytes r) ≡ length (numbers r) = sym (length-map (bytes r) (byte_at ps)) ∙ ap length (same r) in
+    let next : shift + (base + length (bytes r)) ≡ shift + base + length (numbers r) = omega (arith, long) in
+    let more = pieces-at ps shift bytes numbers same (base + length (bytes r)) rs ∙ ap (λ n. laid_out n numbers rs) next in
+    λ j. record { base = shift + base; bytes = same r j; rights = rights_of r; role = r } ∷ more j
 
-pub fixed-stands : (ps : Places) (space : AddressSpace) → map (piece_at ps) (fixed_part space) ≡ fixed_pieces space.image (map (byte_at ps) space.fixed)
-fixed-stands ps space = λ j.
-    record { bytes = bytes-at ps (take (text_bytes space.image.fixed_text_pages) space.image.fixed_code) j; rights = code_rights; role = FixedCode }
-    ∷ record { bytes = bytes-at ps (drop (text_bytes space.image.fixed_text_pages) space.image.fixed_code) j; rights = constant_rights; role = FixedConstants }
-    ∷ record { bytes = bytes-at ps (page_of_words space.image.table) j; rights = constant_rights; role = FixedTable }
-    ∷ record { bytes = map (byte_at ps) space.fixed; rights = data_rights; role = FixedData } ∷ []
+module _ (i : Image) (writable fixed : List ℕ) where
+  -- what the pieces hold at the start of a call
+  abbrev start : Role → List Byte
+  start = bytes_in i (numbers_of writable) (numbers_of fixed) fresh_stack
 
--- how many bytes there are
-abbrev pub size : List SymbolicPiece → ℕ
-size [] = 0
-size (b ∷ bs) = length b.bytes + size bs
+  start-at : (ps : Places) (r : Role) → map (byte_at ps) (start r) ≡ bytes_under i ps.movable zero_stack fixed writable r
+  start-at ps Stack = zeros-at ps (STACK_PAGES * PAGE_BYTES)
+  start-at ps FixedCode = bytes-at ps (take (text_bytes i.fixed_text_pages) i.fixed_code)
+  start-at ps FixedConstants = bytes-at ps (drop (text_bytes i.fixed_text_pages) i.fixed_code)
+  start-at ps FixedTable = bytes-at ps (page_of_words i.table)
+  start-at ps FixedData = bytes-at ps fixed
+  start-at ps Code = bytes-at ps (take (text_bytes i.text_pages) i.code)
+  start-at ps Constants = bytes-at ps (drop (text_bytes i.text_pages) i.code)
+  start-at ps Table = bytes-at ps (page_of_words i.table)
+  start-at ps Cells = local-at ps i.cells
+  start-at ps Data = bytes-at ps writable
 
-length-cell : (c : Cell) → length (cell_bytes c) ≡ WORD_BYTES
-length-cell (Off o) = refl
-length-cell (Constant n) = length-map (little_bytes WORD_BYTES n) Number ∙ length-bytes_low_first 0 WORD_BYTES n
+  -- what a call reaches at its start
+  pub space-at : (ps : Places) → segments_at ps (space_of i (numbers_of writable) (numbers_of fixed) fresh_stack) ≡ segments_of i ps.movable ps.stack zero_stack fixed writable
+  space-at ps =
+      let numbers = bytes_under i ps.movable zero_stack fixed writable in
+      let from = λ (shift base at : ℕ) (roles : List Role) (e : shift + base ≡ at). pieces-at ps shift start numbers (start-at ps) base roles ∙ ap (λ n. laid_out n numbers roles) e in
+      let on_stack = from (base_of ps.stack) 0 (base_of ps.stack) stack_roles (omega arith) in
+      let in_place = from 0 (base_of i.fixed) (base_of i.fixed) fixed_roles (omega arith) in
+      let under = from (base_of ps.movable) 0 (base_of ps.movable) movable_roles (omega arith) in
+      λ j. on_stack j ++ in_place j ++ under j
 
--- code falls into the pages that may be fetched and those that may not
-length-parts : (n : ℕ) (xs : List ℕ) → n ≤ length xs → length (numbers_of (take n xs)) + length (numbers_of (drop n xs)) ≡ length xs
-length-parts n xs fits = omega (arith, length-map (take n xs) Number, length-map (drop n xs) Number, length-take n xs, length-drop n xs)
+  length-cell : (c : Cell) → length (cell_bytes c) ≡ WORD_BYTES
+  length-cell (Off o) = refl
+  length-cell (Constant n) = length-map (little_bytes WORD_BYTES n) Number ∙ length-bytes_low_first 0 WORD_BYTES n
 
-module _ (space : AddressSpace) (whole : IsWhole space.image) (fits : Fits space) where
-  length-table : length (numbers_of (page_of_words space.image.table)) ≡ PAGE_BYTES
-  length-table = length-map (page_of_words space.image.table) Number ∙ length-page_of_words space.image.table (omega (arith, whole.table_fits))
+  length-local : IsWhole i → length (local_page i.cells) ≡ LOCAL_PAGES * PAGE_BYTES
+  length-local whole =
+      let words = length-flat_map_equal cell_bytes WORD_BYTES length-cell i.cells in
+      length-filled PAGE_BYTES (flat_map cell_bytes i.cells) (Number 0) (omega (arith, words, whole.cells_fit))
 
-  length-local : length (local_page space.image.cells) ≡ PAGE_BYTES
-  length-local =
-      let words = length-flat_map_equal cell_bytes WORD_BYTES length-cell space.image.cells in
-      length-filled PAGE_BYTES (flat_map cell_bytes space.image.cells) (Number 0) (omega (arith, words, whole.cells_fit))
-
-  pub size-movable : size (movable_part space) ≡ movable_pages space.image * PAGE_BYTES
-  size-movable =
-      let code = length-parts (text_bytes space.image.text_pages) space.image.code (omega (arith, whole.code)) in
-      omega (arith, code, length-table, length-local, whole.code, fits.writable)
-
-  pub size-fixed : size (fixed_part space) ≡ fixed_pages space.image * PAGE_BYTES
-  size-fixed =
-      let code = length-parts (text_bytes space.image.fixed_text_pages) space.image.fixed_code (omega (arith, whole.fixed_code)) in
-      omega (arith, code, length-table, whole.fixed_code, fits.fixed)
-
-  pub size-stack : size (stack_part space) ≡ STACK_PAGES * PAGE_BYTES
-  size-stack = omega (arith, fits.stack)
+  -- it lies as the layout has it
+  pub space-fits : IsWhole i → length writable ≡ i.data_pages * PAGE_BYTES → length fixed ≡ i.fixed_data_pages * PAGE_BYTES → Fits (space_of i (numbers_of writable) (numbers_of fixed) fresh_stack)
+  space-fits whole w f =
+      let long : (r : Role) → length (start r) ≡ size_of i r =
+      length-bytes_of numbers_of (λ ns. length-map ns Number) i (local_page i.cells) (numbers_of writable) (numbers_of fixed) fresh_stack whole
+      (length-local whole) (length-map writable Number ∙ w) (length-map fixed Number ∙ f) (length-replicate (STACK_PAGES * PAGE_BYTES) (Number 0)) in
+      let lies = λ (base : ℕ) (roles : List Role). extents-laid_out base start roles ∙ (λ j. extents_from base (λ r. long r j) roles) in
+      record { movable = lies 0 movable_roles; stack = lies 0 stack_roles; fixed = lies (base_of i.fixed) fixed_roles }

@@ -9,8 +9,9 @@ use Rattle.ad_base.specs.declared.image.Image.{Image}
 use Rattle.ad_base.specs.declared.layout.TheConstants.{FETCH_BYTES, GATE, PAGE_BYTES, STACK_PAGES}
 use Rattle.ad_base.specs.Place.{base_of}
 use Rattle.ad_core.specs.Plain as plain
-use Rattle.ad_core.specs.Segments.{Access, accesses_of_fetch}
-use Rattle.ad_isa.specs.Step.{Ends, Finish, Finishes, Goes, Next, Returns, State, step}
+use Rattle.ad_base.specs.Segments.{Access, Fetch, told}
+use Rattle.ad_isa.specs.Finish.{Ends, Finish, Returns}
+use Rattle.ad_isa.specs.Step.{Finishes, Goes, Next, State, step}
 use Rattle.ad_symbolic.specs.AddressSpace.{AddressSpace, fetched_value, part_bytes}
 use Rattle.ad_symbolic.specs.Machine as symbolic
 use Rattle.ad_symbolic.specs.Machine.{Memory, Run, symbolic_step, unless_at_gate, spent}
@@ -20,10 +21,10 @@ use Rattle.ad_symbolic.specs.declared.value.Part.TheVariants.{Movable, Stack}
 use Rattle.ad_symbolic.specs.declared.value.Part.{Part}
 use Rattle.ad_symbolic.specs.declared.value.Reason.{Reason}
 use Rattle.ad_symbolic.specs.declared.value.Value.{Value}
-use Rattle.ad_relate.specs.Machines.{IsReady, StandsFor, finish_at, memory_at, next_at, state_at}
+use Rattle.ad_relate.specs.Machines.{IsReady, StandsFor, finish_at, memory_at, next_at, state_at, tracked_at}
 use Rattle.ad_relate.specs.Stands.{Fits, IsApart, Places, base_at, number_at}
 use Rattle.ad_relate.proofs.Values.{alignment, numbers-at}
-use Rattle.ad_relate.proofs.Steps.{step-leaves, step-stands}
+use Rattle.ad_relate.proofs.Steps.{step-fits, step-leaves, step-stands}
 
 -- a part and the page before it lie behind the gate's region, and far below 2^64
 base-from : (i : Image) (ps : Places) (p : Part) → IsApart i ps → GATE + PAGE_BYTES < base_at ps p
@@ -49,9 +50,9 @@ gate-unclear space ps p o apart below aligned gate =
     let beside = or_from (leb (2 ^ 64 - PAGE_BYTES) o) (ltb o (part_bytes space.image p + PAGE_BYTES)) (lt-leb (2 ^ 64 - PAGE_BYTES) o far.1) (le-ltb o (part_bytes space.image p + PAGE_BYTES) far.0) in
     rw (a, inside, beside) refl
 
--- where a run has an outcome, the plain machine's one is what it stands for
+-- where a run has an outcome, the plain machine's one is what it stands for, and what it leaves lies as the layout has it
 abbrev RunStands : Places → Run → plain.PlainOutcome → Type 0
-RunStands ps (Ok o) other = StandsFor ps o other
+RunStands ps (Ok o) other = StandsFor ps o other × Fits o.memory.space
 RunStands ps (Err u) other = Unit {0}
 
 -- a run has no outcome
@@ -64,13 +65,13 @@ unclear-stands ps (Ok o) other none = absurd none
 unclear-stands ps (Err u) other none = tt
 
 -- a run that ends with this memory
-ended : (ps : Places) (accesses : List Access) (m : Memory) (finish : Finish Value) → StandsFor ps (record { finish = finish; memory = m }) (record { end = plain.end_of (finish_at ps finish); memory = memory_at ps accesses m })
-ended ps accesses m finish = record { end = refl; segments = refl; notes = refl; queue = refl }
+ended : (ps : Places) (accesses : List Access) (m : Memory) (finish : Finish Value) → Fits m.space → RunStands ps (Ok (record { finish = finish; memory = m })) (plain.ended (plain.end_of (finish_at ps finish)) (tracked_at ps accesses m))
+ended ps accesses m finish fits = (record { end = refl; memory = refl }, fits)
 
 -- a run that has reached the gate
-returned : (ps : Places) (accesses : List Access) (m : Memory) (xs : List Value)
-    → StandsFor ps (record { finish = Returns (slice_index_or xs 10 (Num 0)); memory = m }) (record { end = ends.Returned (slice_index (map (number_at ps) xs) 10); memory = memory_at ps accesses m })
-returned ps accesses m xs = record { end = ap ends.Returned (get_or-map (number_at ps) xs 10 (Num 0)); segments = refl; notes = refl; queue = refl }
+returned : (ps : Places) (accesses : List Access) (m : Memory) (xs : List Value) → Fits m.space
+    → RunStands ps (Ok (record { finish = Returns (slice_index_or xs 10 (Num 0)); memory = m })) (plain.ended (ends.Returned (slice_index (map (number_at ps) xs) 10)) (tracked_at ps accesses m))
+returned ps accesses m xs fits = (record { end = ap ends.Returned (get_or-map (number_at ps) xs 10 (Num 0)); memory = refl }, fits)
 
 -- choices by one test
 run-if : (ps : Places) (b : Bool) (x y : Run) (v w : plain.PlainOutcome) → (b ≡ true → RunStands ps x v) → (b ≡ false → RunStands ps y w) → RunStands ps (if b then x else y) (if b then v else w)
@@ -87,18 +88,18 @@ gated : (ps : Places) (accesses : List Access) (xs : List Value) (pc : Value) (m
     → IsReady ps (record { registers = xs; pc = pc }) m
     → ((p : Part) (o : ℕ) → pc ≡ At p o → fetched_value m.space (At p o) ≡ Err Address → IsUnclear otherwise)
     → RunStands ps otherwise other
-    → RunStands ps (unless_at_gate (record { registers = xs; pc = pc }) m otherwise) (plain.unless_at_gate (state_at ps (record { registers = xs; pc = pc })) (memory_at ps accesses m) other)
-gated ps accesses xs (Num n) m otherwise other ready far h = run-if ps (n == GATE) _ otherwise _ other (λ e. returned ps accesses m xs) (λ e. h)
+    → RunStands ps (unless_at_gate (record { registers = xs; pc = pc }) m otherwise) (plain.unless_at_gate (state_at ps (record { registers = xs; pc = pc })) (tracked_at ps accesses m) other)
+gated ps accesses xs (Num n) m otherwise other ready far h = run-if ps (n == GATE) _ otherwise _ other (λ e. returned ps accesses m xs ready.fits) (λ e. h)
 gated ps accesses xs (At p o) m otherwise other ready far h =
     run-else ps (number_at ps (At p o) == GATE) otherwise _ other (λ e. far p o refl (gate-unclear m.space ps p o ready.apart ready.below ready.aligned (eqb-true (number_at ps (At p o)) GATE e))) h
 
 -- where the fuel is spent
-spent-stands : (ps : Places) (accesses : List Access) (made : ℕ) (xs : List Value) (pc : Value) (m : Memory)
-    → RunStands ps (spent made (record { registers = xs; pc = pc }) m) (record { end = ends.Fuel; memory = memory_at ps accesses m })
-spent-stands ps accesses made xs (Num n) m = ended ps accesses m (Ends ends.Fuel)
-spent-stands ps accesses made xs (At p o) m =
-    elim (fetched_value m.space (At p o)) as (λ found. RunStands ps (elim found [ Ok x ↦ Ok (record { finish = Ends ends.Fuel; memory = m }) | Err reason ↦ Err (record { reason = Address; step = made }) ]) (record { end = ends.Fuel; memory = memory_at ps accesses m })) [
-      | Ok found ↦ ended ps accesses m (Ends ends.Fuel)
+spent-stands : (ps : Places) (accesses : List Access) (made : ℕ) (xs : List Value) (pc : Value) (m : Memory) → Fits m.space
+    → RunStands ps (spent made (record { registers = xs; pc = pc }) m) (plain.ended ends.Fuel (tracked_at ps accesses m))
+spent-stands ps accesses made xs (Num n) m fits = ended ps accesses m (Ends ends.Fuel) fits
+spent-stands ps accesses made xs (At p o) m fits =
+    elim (fetched_value m.space (At p o)) as (λ found. RunStands ps (elim found [ Ok x ↦ Ok (record { finish = Ends ends.Fuel; memory = m }) | Err reason ↦ Err (record { reason = Address; step = made }) ]) (plain.ended ends.Fuel (tracked_at ps accesses m))) [
+      | Ok found ↦ ended ps accesses m (Ends ends.Fuel) fits
       | Err reason ↦ tt
     ]
 
@@ -111,14 +112,15 @@ unfolding symbolic_step step
 step-unclear made rest xs pc m p o at e = rw (at, e) tt
 
 -- what follows a step
-continue-stands : (ps : Places) (accesses : List Access) (made : ℕ) (rest : State Value → Memory → Run) (goes : State ℕ → plain.Memory → plain.PlainOutcome) (step : Result (Next Value Memory) Reason) (next : Next ℕ plain.Memory)
+continue-stands : (ps : Places) (accesses : List Access) (made : ℕ) (rest : State Value → Memory → Run) (goes : State ℕ → plain.Tracked → plain.PlainOutcome) (step : Result (Next Value Memory) Reason) (next : Next ℕ plain.Tracked)
     → ((n : Next Value Memory) → step ≡ Ok n → next ≡ next_at ps accesses n)
-    → ((h : State Value) (m : Memory) → step ≡ Ok (Goes h m) → RunStands ps (rest h m) (goes (state_at ps h) (memory_at ps accesses m)))
+    → ((h : State Value) (m : Memory) → step ≡ Ok (Goes h m) → RunStands ps (rest h m) (goes (state_at ps h) (tracked_at ps accesses m)))
+    → ((finish : Finish Value) (m : Memory) → step ≡ Ok (Finishes finish m) → Fits m.space)
     → RunStands ps (symbolic.continue made rest step) (plain.continue goes next)
-continue-stands ps accesses made rest goes (Ok (Goes h m)) next stands more = subst (λ n. RunStands ps (rest h m) (plain.continue goes n)) (sym (stands (Goes h m) refl)) (more h m refl)
-continue-stands ps accesses made rest goes (Ok (Finishes finish m)) next stands more =
-    subst (λ n. StandsFor ps (record { finish = finish; memory = m }) (plain.continue goes n)) (sym (stands (Finishes finish m) refl)) (ended ps accesses m finish)
-continue-stands ps accesses made rest goes (Err reason) next stands more = tt
+continue-stands ps accesses made rest goes (Ok (Goes h m)) next stands more left = subst (λ n. RunStands ps (rest h m) (plain.continue goes n)) (sym (stands (Goes h m) refl)) (more h m refl)
+continue-stands ps accesses made rest goes (Ok (Finishes finish m)) next stands more left =
+    subst (λ n. RunStands ps (Ok (record { finish = finish; memory = m })) (plain.continue goes n)) (sym (stands (Finishes finish m) refl)) (ended ps accesses m finish (left finish m refl))
+continue-stands ps accesses made rest goes (Err reason) next stands more left = tt
 
 -- the registers at the start
 first-at : (ps : Places) (args : List ℕ) (sp : ℕ) → number_at ps (At Stack (STACK_PAGES * PAGE_BYTES)) ≡ sp → map (number_at ps) (symbolic.first_values args) ≡ plain.first_registers args sp
@@ -139,44 +141,50 @@ stack-end i ps apart = let to = base-to i ps Stack apart in omega arith
 
 module _ (ps : Places) where
   run-stands : (fuel made : ℕ) (accesses : List Access) (h : State Value) (m : Memory) → IsReady ps h m
-      → RunStands ps (symbolic.symbolic_run fuel made h m) (plain.plain_run fuel (state_at ps h) (memory_at ps accesses m))
+      → RunStands ps (symbolic.symbolic_run fuel made h m) (plain.plain_run fuel (state_at ps h) (tracked_at ps accesses m))
   unfolding symbolic.symbolic_run plain.plain_run
   run-stands zero made accesses h m ready =
-      gated ps accesses h.registers h.pc m (spent made h m) _ ready (spent-unclear made h.registers h.pc m) (spent-stands ps accesses made h.registers h.pc m)
+      gated ps accesses h.registers h.pc m (spent made h m) _ ready (spent-unclear made h.registers h.pc m) (spent-stands ps accesses made h.registers h.pc m ready.fits)
   run-stands (suc fuel) made accesses h m ready =
-      let after = accesses ++ accesses_of_fetch (number_at ps h.pc) in
+      let after = accesses ++ told Fetch FETCH_BYTES (number_at ps h.pc) in
       gated ps accesses h.registers h.pc m (symbolic.continue made (symbolic.symbolic_run fuel (made + 1)) (symbolic_step h m)) _ ready (step-unclear made (symbolic.symbolic_run fuel (made + 1)) h.registers h.pc m)
-      (continue-stands ps after made (symbolic.symbolic_run fuel (made + 1)) (plain.plain_run fuel) (symbolic_step h m) (plain.plain_step (state_at ps h) (memory_at ps accesses m))
+      (continue-stands ps after made (symbolic.symbolic_run fuel (made + 1)) (plain.plain_run fuel) (symbolic_step h m) (plain.plain_step (state_at ps h) (tracked_at ps accesses m))
       (λ n e. step-stands ps h m accesses n ready e)
-      (λ next memory e. run-stands fuel (made + 1) after next memory (step-leaves ps h next m memory ready e)))
+      (λ next memory e. run-stands fuel (made + 1) after next memory (step-leaves ps h next m memory ready e))
+      (λ finish memory e. step-fits ps h m memory finish ready e))
 
   call-stands : (fuel offset : ℕ) (args : List ℕ) (m : Memory) → IsApart m.space.image ps → Fits m.space → offset < 2 ^ 64
       → RunStands ps (symbolic.symbolic_call fuel offset args m)
-      (plain.plain_call fuel (number_at ps (At Movable offset)) args (base_of ps.stack + STACK_PAGES * PAGE_BYTES) (memory_at ps [] m))
+      (plain.plain_call fuel (number_at ps (At Movable offset)) args (base_of ps.stack + STACK_PAGES * PAGE_BYTES) (memory_at ps m))
   unfolding symbolic.symbolic_call plain.plain_call
   call-stands fuel offset args m apart fits below =
       let sp = base_of ps.stack + STACK_PAGES * PAGE_BYTES in
       let entry = number_at ps (At Movable offset) in
       let start : State Value = record { registers = symbolic.first_values args; pc = At Movable offset } in
-      let made = λ (h : State ℕ). plain.plain_run fuel h (memory_at ps [] m) in
+      let made = λ (h : State ℕ). plain.plain_run fuel h (tracked_at ps [] m) in
       let same = first-at ps args sp (stack-end m.space.image ps apart) in
-      let misaligned : plain.PlainOutcome = record { end = ends.Misaligned; memory = memory_at ps [] m } in
+      let misaligned : plain.PlainOutcome = plain.ended ends.Misaligned (tracked_at ps [] m) in
       let runs = λ (e : (offset % FETCH_BYTES == 0) ≡ true).
       let ready : IsReady ps start m = record { apart = apart; fits = fits; aligned = eqb-true (offset % FETCH_BYTES) 0 e; below = below } in
       subst (λ xs. RunStands ps (symbolic.symbolic_run fuel 0 start m) (made (record { registers = xs; pc = entry }))) same (run-stands fuel 0 [] start m ready) in
       subst (λ n. RunStands ps (if offset % FETCH_BYTES == 0 then symbolic.symbolic_run fuel 0 start m else Ok (record { finish = Ends ends.Misaligned; memory = m }))
       (if n == 0 then made (record { registers = plain.first_registers args sp; pc = entry }) else misaligned)) (sym (alignment ps (At Movable offset)))
-      (run-if ps (offset % FETCH_BYTES == 0) _ _ _ _ runs (λ e. ended ps [] m (Ends ends.Misaligned)))
+      (run-if ps (offset % FETCH_BYTES == 0) _ _ _ _ runs (λ e. ended ps [] m (Ends ends.Misaligned) fits))
 
   -- a run's outcome
   pub run-outcome : (fuel made : ℕ) (accesses : List Access) (h : State Value) (m : Memory) (o : symbolic.SymbolicOutcome) → IsReady ps h m → symbolic.symbolic_run fuel made h m ≡ Ok o
-      → StandsFor ps o (plain.plain_run fuel (state_at ps h) (memory_at ps accesses m))
-  run-outcome fuel made accesses h m o ready e = subst (λ r. RunStands ps r (plain.plain_run fuel (state_at ps h) (memory_at ps accesses m))) e (run-stands fuel made accesses h m ready)
+      → StandsFor ps o (plain.plain_run fuel (state_at ps h) (tracked_at ps accesses m))
+  run-outcome fuel made accesses h m o ready e =
+      let both = subst (λ r. RunStands ps r (plain.plain_run fuel (state_at ps h) (tracked_at ps accesses m))) e (run-stands fuel made accesses h m ready) in
+      both.0
 
-  -- a call's outcome
-  pub call-outcome : (fuel offset : ℕ) (args : List ℕ) (m : Memory) (o : symbolic.SymbolicOutcome) → IsApart m.space.image ps → Fits m.space → offset < 2 ^ 64
-      → symbolic.symbolic_call fuel offset args m ≡ Ok o
-      → StandsFor ps o (plain.plain_call fuel (number_at ps (At Movable offset)) args (base_of ps.stack + STACK_PAGES * PAGE_BYTES) (memory_at ps [] m))
-  call-outcome fuel offset args m o apart fits below e =
-      subst (λ r. RunStands ps r (plain.plain_call fuel (number_at ps (At Movable offset)) args (base_of ps.stack + STACK_PAGES * PAGE_BYTES) (memory_at ps [] m))) e
-      (call-stands fuel offset args m apart fits below)
+  -- a call's outcome, and what it leaves
+  module _ (fuel offset : ℕ) (args : List ℕ) (m : Memory) (o : symbolic.SymbolicOutcome) (apart : IsApart m.space.image ps) (fits : Fits m.space) (below : offset < 2 ^ 64) (is : symbolic.symbolic_call fuel offset args m ≡ Ok o) where
+    abbrev Found : symbolic.Run → Type 0
+    Found r = RunStands ps r (plain.plain_call fuel (number_at ps (At Movable offset)) args (base_of ps.stack + STACK_PAGES * PAGE_BYTES) (memory_at ps m))
+
+    pub call-outcome : StandsFor ps o (plain.plain_call fuel (number_at ps (At Movable offset)) args (base_of ps.stack + STACK_PAGES * PAGE_BYTES) (memory_at ps m))
+    call-outcome = (subst Found is (call-stands fuel offset args m apart fits below)).0
+
+    pub call-fits : Fits o.memory.space
+    call-fits = (subst Found is (call-stands fuel offset args m apart fits below)).1

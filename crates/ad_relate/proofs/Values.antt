@@ -1,5 +1,5 @@
 -- The operations on values are those on the numbers that the values stand for.
-use Rattle.std.proofs.Common.{◌≡◌, ℕ, ◌+◌, ◌-◌, ◌*◌, ◌/◌, ◌%◌, ◌^◌, ◌<◌, bit_and, mod-eq_of_lt, List, [], ◌∷◌, map, Bool, true, false, Ok, Err, Result, refl, sym, ap, subst, ◌∙◌, add_assoc, add_comm, arith, get_or, set}
+use Rattle.std.proofs.Common.{◌≡◌, ℕ, ◌+◌, ◌-◌, ◌*◌, ◌/◌, ◌%◌, ◌^◌, ◌<◌, bit_and, mod-eq_of_lt, List, [], ◌∷◌, map, Bool, true, false, Ok, Err, Result, IfOk, refl, sym, ap, subst, ◌∙◌, add_assoc, add_comm, arith, get_or, set}
 use Rattle.std.specs.Prelude.{◌==◌, if◌then◌else◌}
 use Rattle.std.proofs.Math.ListN.{get_or-map}
 use Rattle.std.proofs.Math.Nat.{add-mod-mod}
@@ -25,6 +25,10 @@ Follows f (Err reason) found = Unit {0}
 -- and so the other answer is there too
 pub followed : {A B R S : Type 0} (f : A → B) {found : Result B S} (answer : Result A R) (x : A) → Follows f answer found → answer ≡ Ok x → found ≡ Ok (f x)
 followed f {found} answer x h e = subst (λ a. Follows f a found) e h
+
+-- what holds of each answer holds of the one that there is
+pub if-each : {A R : Type 0} (P : A → Type 0) (x : Result A R) (a : A) → IfOk x P → x ≡ Ok a → P a
+if-each P x a h e = subst (λ y. IfOk y P) e h
 
 -- values that are numbers stand for these
 pub numbers-at : (ps : Places) (ns : List ℕ) → map (number_at ps) (map Num ns) ≡ ns

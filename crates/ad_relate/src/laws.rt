@@ -8,15 +8,16 @@ ghost use Rattle.ad_base.specs.Book.{Contents};
 ghost use Rattle.ad_base.specs.Image.{IsWhole};
 ghost use Rattle.ad_core.specs.Plain as machine;
 ghost use Rattle.ad_core.specs.Turn.{IsLawful, plain};
-ghost use Rattle.ad_core.specs.Segments.{Access, fetched};
-ghost use Rattle.ad_isa.specs.Step.{State, Next, Goes};
+ghost use Rattle.ad_base.specs.Segments.{Access};
+ghost use Rattle.ad_core.specs.Memory.{fetched};
+ghost use Rattle.ad_isa.specs.Step.{Found, Goes, Next, State};
 ghost use Rattle.ad_symbolic.specs.AddressSpace.{AddressSpace, fetched_value};
 ghost use Rattle.ad_symbolic.specs.Machine as symbolic;
 ghost use Rattle.ad_symbolic.specs.Replay.{Asked, clear_calls, keeps_none, kept_of, run_of};
 ghost use Rattle.ad_symbolic.specs.Value.{conjunction_of, offset_of, sum_of};
 ghost use Rattle.ad_symbolic.specs.declared.value.Value.TheVariants.{Num};
 ghost use Rattle.ad_symbolic.specs.declared.value.Value.{Value};
-ghost use Rattle.ad_relate.specs.Machines.{Agrees, IsReady, StandsFor, memory_at, next_at, state_at};
+ghost use Rattle.ad_relate.specs.Machines.{Agrees, IsReady, StandsFor, memory_at, next_at, state_at, tracked_at};
 ghost use Rattle.ad_relate.specs.Stands.{number_at, segments_at, DataFits, Fits, IsApart, Places};
 ghost use Rattle.ad_relate.specs.ClearHistory.{AreOffsets, ArePlacedApart, RepliesAsReplayed, answers_of};
 ghost use Rattle.ad_relate.specs.Examples.{sum_book, sum_image};
@@ -35,13 +36,14 @@ pub fn law_values()
 {}
 
 /// Where it is clear what the symbolic machine finds at a value, the plain machine finds the same at
-/// the number of the value, wherever the movable part and the stack lie: the same word, or the same
-/// end. The value is a number, or an address at an offset below 2^64, that may be fetched at.
+/// the number of the value, wherever the movable part and the stack lie: the same word,
+/// the same service, or the same end. The value is a number, or an address at an offset below 2^64, that may be
+/// fetched at.
 pub fn law_fetch()
     ensures { (space : AddressSpace) (ps : Places) → IsApart space.image ps → Fits space
-        → (v : Value) (found : Result ℕ End) → offset_of v < 2 ^ 64 → offset_of v % FETCH_BYTES ≡ 0
+        → (v : Value) (found : Result Found End) → offset_of v < 2 ^ 64 → offset_of v % FETCH_BYTES ≡ 0
         → fetched_value space v ≡ Ok found
-        → machine.word_or_end (fetched (segments_at ps space) (number_at ps v)) ≡ found }
+        → machine.found_or_end (fetched (segments_at ps space) (number_at ps v)) ≡ found }
 {}
 
 /// A clear step stands for the plain machine's step, wherever the movable part and the stack lie, whatever
@@ -49,7 +51,7 @@ pub fn law_fetch()
 pub fn law_step()
     ensures stands { (ps : Places) (h : State Value) (m : symbolic.Memory) (accesses : List Access) (next : Next Value symbolic.Memory)
         → IsReady ps h m → symbolic.symbolic_step h m ≡ Ok next
-        → (after : List Access) × (machine.plain_step (state_at ps h) (memory_at ps accesses m) ≡ next_at ps after next) }
+        → (after : List Access) × (machine.plain_step (state_at ps h) (tracked_at ps accesses m) ≡ next_at ps after next) }
     ensures ready { (ps : Places) (h after : State Value) (m memory : symbolic.Memory)
         → IsReady ps h m → symbolic.symbolic_step h m ≡ Ok (Goes after memory)
         → IsReady ps after memory }
@@ -62,13 +64,13 @@ pub fn law_step()
 pub fn law_run()
     ensures run { (ps : Places) (fuel made : ℕ) (accesses : List Access) (h : State Value) (m : symbolic.Memory) (o : symbolic.SymbolicOutcome)
         → IsReady ps h m → symbolic.symbolic_run fuel made h m ≡ Ok o
-        → StandsFor ps o (machine.plain_run fuel (state_at ps h) (memory_at ps accesses m)) }
+        → StandsFor ps o (machine.plain_run fuel (state_at ps h) (tracked_at ps accesses m)) }
     ensures call { (ps : Places) (fuel offset : ℕ) (args : List ℕ) (m : symbolic.Memory) (o : symbolic.SymbolicOutcome)
         → IsApart m.space.image ps → Fits m.space → offset < 2 ^ 64
         → symbolic.symbolic_call fuel offset args m ≡ Ok o
         → StandsFor ps o (machine.plain_call fuel ((base_of ps.movable + offset) % 2 ^ 64) args
         (base_of ps.stack + STACK_PAGES * PAGE_BYTES)
-        (machine.at_start (segments_at ps m.space) (map (number_at ps) m.notes) (map (number_at ps) m.queue))) }
+        (memory_at ps m)) }
 {}
 
 /// A clear call, which keeps no address, and the plain machine's call of the same, wherever the movable part

@@ -7,7 +7,7 @@ use Rattle.atomic_table.specs.Seated.{TableId}
 use Rattle.atomic_table.specs.Table.{Step, Allows, Splits, Joins, keeps}
 use Rattle.atomic_table.proofs.Lists.{set_else}
 use Rattle.ad_base.specs.declared.place.Place.{Place}
-use Rattle.ad_base.specs.Place.{packed}
+use Rattle.ad_base.specs.Place.{packed, place_at}
 use Rattle.ad_stacks.specs.declared.view.Given.{Given}
 use Rattle.ad_stacks.specs.declared.view.Hand.{Hand}
 use Rattle.ad_stacks.specs.declared.view.Plan.{Plan}
@@ -18,7 +18,7 @@ use Rattle.ad_stacks.specs.declared.view.Doing.{Doing}
 use Rattle.ad_stacks.specs.declared.view.Doing.TheVariants.{Spent, Worker, Mover}
 use Rattle.ad_stacks.specs.History.{Event, takes_of, NeverFall}
 use Rattle.ad_stacks.specs.Rule.{St, Kept}
-use Rattle.ad_stacks.specs.StackPlace.{place_at, record_word}
+use Rattle.ad_stacks.specs.StackPlace.{record_word}
 use Rattle.ad_stacks.specs.Steps.{Sat, hand, taken_by, after_take, after_put, after_gone, after_record, after_refresh, after_mark, replacing, to_mark, after_deal, given_off, after_join, Takes, Refreshes}
 use Rattle.ad_stacks.specs.Laws.{MayRecord, counted}
 use Rattle.ad_stacks.proofs.Changed.{changed_here}

@@ -12,7 +12,7 @@ use Rattle.ad_base.specs.declared.ledger.Kind.TheVariants.{Stack}
 use Rattle.ad_base.specs.declared.ledger.Row.{Row}
 use Rattle.ad_base.specs.declared.place.Place.{Place}
 use Rattle.ad_base.specs.Ledger.{IsUnmappedOnce}
-use Rattle.ad_base.specs.Place.{packed}
+use Rattle.ad_base.specs.Place.{packed, place_at}
 use Rattle.ad_stacks.specs.declared.view.Given.{Given}
 use Rattle.ad_stacks.specs.declared.view.Hand.{Hand}
 use Rattle.ad_stacks.specs.declared.view.Plan.{Plan}
@@ -22,7 +22,7 @@ use Rattle.ad_stacks.specs.declared.view.Stage.{Stage}
 use Rattle.ad_stacks.specs.declared.view.Stage.TheVariants as stage
 use Rattle.ad_stacks.specs.declared.view.Doing.TheVariants.{Mover}
 use Rattle.ad_stacks.specs.Names.{Record, Mark}
-use Rattle.ad_stacks.specs.StackPlace.{place_at, record_word, IsStackPlace, IsStackWord}
+use Rattle.ad_stacks.specs.StackPlace.{record_word, IsStackPlace, IsStackWord}
 use Rattle.ad_stacks.specs.History.{Status, unmade, in_lane, held, gone, status, held_of, takes_of, line_of, openings_of, refreshes_of}
 use Rattle.ad_stacks.specs.Rule.{St, Kept, Records, Counts, IsOwed, IsMoverOwed, IsRecorded, IsUnmarked, holding}
 use Rattle.ad_stacks.specs.Steps.{Sat, hand}
@@ -30,7 +30,8 @@ use Rattle.ad_stacks.specs.Ledger.{all_given, by_number, AreRows, HaveHistory, H
 use Rattle.ad_stacks.specs.Seen.{SeatSeen}
 use Rattle.ad_stacks.specs.Private.Handles.{gathered_plan}
 use Rattle.ad_stacks.specs.Private.Rows.{row_at, row_in, rows_in, hand_of, AreRecords}
-use Rattle.ad_stacks.proofs.Numbers.{place_at-packed, packed_small, record_some, number_fits}
+use Rattle.ad_base.proofs.Packing.{place_at-packed}
+use Rattle.ad_stacks.proofs.Numbers.{packed_small, record_some, number_fits}
 use Rattle.ad_stacks.proofs.Rows.{given, row_by, row_of, rows_given, are_rows, rows_once, history_rows, IsAtPlace, takes_are}
 use Rattle.ad_stacks.proofs.Sound.{at_status}
 use Rattle.ad_stacks.proofs.StepLaws.{sound, lanes_are}

@@ -1,24 +1,10 @@
 -- The words of places and records.
-use Rattle.std.proofs.Common.{◌≡◌, ◌≢◌, ℕ, ◌+◌, ◌*◌, ◌/◌, ◌%◌, ◌^◌, ◌<◌, Option, None, Some, is_some, true, false, Bool, cond, ne_eqb, sym, refl, ap, ◌∙◌, subst, arith}
+use Rattle.std.proofs.Common.{◌≡◌, ◌≢◌, ℕ, ◌+◌, ◌*◌, ◌%◌, ◌^◌, ◌<◌, Option, None, Some, is_some, true, false, Bool, cond, ne_eqb, sym, refl, ap, ◌∙◌, subst, arith}
 use Rattle.ad_base.specs.declared.place.Place.{Place}
-use Rattle.ad_base.specs.Place.{packed, IsPlace}
-use Rattle.ad_stacks.specs.StackPlace.{place_at, lane_word, lane_place, record_word, IsStackPlace, IsStackWord}
+use Rattle.ad_base.specs.Place.{packed, IsPlace, place_at}
+use Rattle.ad_stacks.specs.StackPlace.{lane_word, lane_place, record_word, IsStackPlace, IsStackWord}
 use Rattle.ad_stacks.specs.Laws.{counted}
-
--- a place's word says the place
-pub place_at-packed : (p : Place) → IsPlace p → place_at (packed p) ≡ p
-unfolding place_at
-place_at-packed p h =
-    let behind = h.page_behind in
-    let region : packed p % 2 ^ 16 ≡ p.region = omega arith in
-    let start : packed p / 2 ^ 16 % 2 ^ 10 ≡ p.start = omega arith in
-    let pages : packed p / 2 ^ 26 % 2 ^ 10 ≡ p.pages = omega arith in
-    let mapping : packed p / 2 ^ 36 % 2 ^ 12 ≡ p.mapping = omega arith in
-    let frame : packed p / 2 ^ 48 % 2 ^ 8 ≡ p.frame = omega arith in
-    λ i. record { region = region i; start = start i; pages = pages i; mapping = mapping i; frame = frame i }
-
-pub packed_some : (p : Place) → IsPlace p → packed p ≢ 0
-packed_some p h = λ e. let m = h.mapping_from in omega arith
+use Rattle.ad_base.proofs.Packing.{place_at-packed, packed-some}
 
 pub packed_small : (p : Place) → IsStackPlace p → packed p < 2 ^ 48
 packed_small p h = let a = h.place.page_behind in let b = h.no_frame in let c = h.place.mapping_to in let d = h.place.region_to in omega arith
@@ -50,4 +36,4 @@ some_word (Some p) e = (p, refl)
 
 pub lane_place-word : (o : Option Place) → ((p : Place) → o ≡ Some p → IsPlace p) → lane_place (lane_word o) ≡ o
 lane_place-word None h = refl
-lane_place-word (Some p) h = ap (λ (b : Bool). cond {A = Option Place} b None (Some (place_at (packed p)))) (ne_eqb (packed p) 0 (packed_some p (h p refl))) ∙ ap Some (place_at-packed p (h p refl))
+lane_place-word (Some p) h = ap (λ (b : Bool). cond {A = Option Place} b None (Some (place_at (packed p)))) (ne_eqb (packed p) 0 (packed-some p (h p refl))) ∙ ap Some (place_at-packed p (h p refl))

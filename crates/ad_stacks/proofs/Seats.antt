@@ -1,8 +1,9 @@
 -- The views of the seats, once a seat has made a step, was split off or was joined.
-use Rattle.std.proofs.Common.{◌≡◌, ◌≢◌, ◌⊎◌, ⊎_elim, inl, inr, ℕ, zero, suc, ◌+◌, ◌<◌, ◌≤◌, List, [], ◌∷◌, ◌++◌, length, set, sym, refl, ap, ◌∙◌, subst, arith}
-use mathlib.Core.Option.{some, some-injective, some-ne-none}
+use Rattle.std.proofs.Common.{◌≡◌, ◌≢◌, ⊎_elim, ℕ, ◌+◌, ◌<◌, ◌≤◌, List, [], ◌∷◌, ◌++◌, length, set, sym, refl, ap, ◌∙◌, subst, arith}
+use mathlib.Core.Option.{some, some-injective}
 use lib.ListN.{get_elem?}
 use Rattle.atomic_table.proofs.Lists.{at_set, set_here, set_else, at_longer, at_last}
+use Rattle.ad_base.proofs.ListItems.{at_end, inside_of}
 use Rattle.ad_base.specs.declared.place.Place.{Place}
 use Rattle.ad_stacks.specs.declared.view.Hand.{Hand}
 use Rattle.ad_stacks.specs.declared.view.Stance.{Stance}
@@ -20,13 +21,6 @@ AllKnow past stances owner plan mover views = (j : ℕ) (view : Doing) → get_e
 
 same_hand : {a b : Stance} {x y : List Place} → a ≡ b → x ≡ y → hand a x ≡ hand b y
 same_hand e f = λ i. hand (e i) (f i)
-
--- the last of a list, or an earlier one
-pub at_end : {A : Type 0} (xs : List A) (a b : A) (j : ℕ) → get_elem? (xs ++ a ∷ []) j ≡ some b → (get_elem? xs j ≡ some b) ⊎ ((j ≡ length xs) × (a ≡ b))
-at_end [] a b zero e = inr (refl, some-injective a b e)
-at_end [] a b (suc j) e = absurd (some-ne-none b (sym e))
-at_end (x ∷ xs) a b zero e = inl e
-at_end (x ∷ xs) a b (suc j) e = ⊎_elim inl (λ t. inr (ap suc t.0, t.1)) (at_end xs a b j e)
 
 module _ (past : List Event) (stances : ℕ → Stance) (owner : ℕ → ℕ) (plan : Plan) (mover : ℕ) (views : List Doing) (know : AllKnow past stances owner plan mover views) where
   -- a worker's seat makes a step
@@ -90,11 +84,6 @@ module _ (past : List Event) (stances : ℕ → Stance) (owner : ℕ → ℕ) (p
           let apart : v ≢ w = λ e. n (sym k.2 ∙ (ap owner e ∙ theirs.2)) in
           (let l = k.0 in omega arith, let l = k.1 in omega arith, k.2, k.3)
       others j (Mover q) n m k = absurd (m (k.1 ∙ sym mine))
-
-inside_of : {A : Type 0} (xs : List A) (j : ℕ) (a : A) → get_elem? xs j ≡ some a → j < length xs
-inside_of [] j a e = absurd (some-ne-none a (sym e))
-inside_of (x ∷ xs) zero a e = omega arith
-inside_of (x ∷ xs) (suc j) a e = let l = inside_of xs j a e in omega arith
 
 -- two views of one seat are one
 same_view : (views : List Doing) (i j : ℕ) (a b : Doing) → get_elem? views i ≡ some a → get_elem? views j ≡ some b → i ≡ j → a ≡ b

@@ -8,7 +8,7 @@ use prog.Atomic.{either}
 use Rattle.atomic_table.specs.Table.{keeps, stepped}
 use Rattle.atomic_table.proofs.Lists.{at_longer, at_last}
 use Rattle.ad_base.specs.declared.place.Place.{Place}
-use Rattle.ad_base.specs.Place.{packed}
+use Rattle.ad_base.specs.Place.{packed, place_at}
 use Rattle.ad_stacks.specs.declared.view.Given.{Given}
 use Rattle.ad_stacks.specs.declared.view.Hand.{Hand}
 use Rattle.ad_stacks.specs.declared.view.Plan.{Plan}
@@ -19,14 +19,15 @@ use Rattle.ad_stacks.specs.declared.view.Stage.TheVariants as stage
 use Rattle.ad_stacks.specs.declared.view.Doing.{Doing}
 use Rattle.ad_stacks.specs.declared.view.Doing.TheVariants.{Spent, Worker, Mover}
 use Rattle.ad_stacks.specs.Names.{Name, Lane, Record, Mark, IsName, index, changed, wrote}
-use Rattle.ad_stacks.specs.StackPlace.{place_at, lane_word, lane_place, record_word, IsStackWord}
+use Rattle.ad_stacks.specs.StackPlace.{lane_word, lane_place, record_word, IsStackWord}
 use Rattle.ad_stacks.specs.History.{Event, took, put, refreshed, Status, unmade, in_lane, held, gone, replaced, status, lane_of, held_of, takes_of, line_of, newest, openings_of, refreshes_of, MayTake, MayPut, MayRefresh, AreBelow, AreLawful, IsAbove}
 use Rattle.ad_stacks.specs.Rule.{St, Kept, Records, Counts, Knows, Seated, Dealt, LaneStands, PlanStands, StageStands, IsOwed, IsMoverOwed, IsRecorded, IsUnmarked, OwesGone, IsNumberOf, IsGone, holding}
 use Rattle.ad_stacks.specs.Steps.{hand, put_back, gathering, dealing, replacing, marked, owing}
 use Rattle.ad_stacks.specs.Laws.{TakeLaw, PutLaw, GoneLaw, MoverGoneLaw, RecordLaw, RefreshLaw, MarkLaw, SplitLaw, JoinLaw, counted, Adds, Stays, moved}
 use Rattle.ad_stacks.proofs.Changed.{changed_here, changed_else, at_changed, either_way}
 use Rattle.ad_stacks.proofs.Frames.{same_counts, other_stance, other_stage, other_record, GoneStays, owes_stay, stage_stays, mover_owes_gone, owes_gone}
-use Rattle.ad_stacks.proofs.Numbers.{place_at-packed, packed_some, stack_word, counted_once, some_word, lane_place-word, number_fits}
+use Rattle.ad_base.proofs.Packing.{place_at-packed, packed-some}
+use Rattle.ad_stacks.proofs.Numbers.{stack_word, counted_once, some_word, lane_place-word, number_fits}
 use Rattle.ad_stacks.proofs.Seats.{worker_steps, mover_steps, mover_splits, mover_joins, worker_sits, mover_sits, split_sits, join_sits}
 use Rattle.ad_stacks.proofs.Sound.{Sound, sound_of, at_status, gone_stays, below_unmade, are_below, newest_below, refreshed_status}
 use Rattle.ad_stacks.proofs.Writes.{writes}
@@ -200,13 +201,13 @@ put_law openings s r id w p taken at =
     let snd = sound openings s r in
     let may : MayPut r.past w p = (snd.lane w).holds p (held_is openings s r id w (stance.Holds p) taken at) in
     let was = at_status snd p.mapping (held w p) may in
-    let some_place = packed_some p was.made.place.place in
+    let some_place = packed-some p was.made.place.place in
     let found = get_or s.words w 0 in
     let word = found_is openings s r id w (stance.Holds p) taken at in
     let x = word_after w p some_place found in
     let d : Stance = stance_after w p some_place found in
     let o = lane_of r.past w in
-    let places : (q : Place) → o ≡ Some q → packed q ≢ 0 = λ q e. packed_some q (at_status snd q.mapping (in_lane w q) ((snd.lane w).inside q e).0).0.place.place in
+    let places : (q : Place) → o ≡ Some q → packed q ≢ 0 = λ q e. packed-some q (at_status snd q.mapping (in_lane w q) ((snd.lane w).inside q e).0).0.place.place in
     let past' : List Event = put w p ∷ r.past in
     let stays : GoneStays r.past past' = gone_stays (put w p) r.past r.lawful may in
     let stance_was = stance_is openings s r id w (stance.Holds p) taken at in

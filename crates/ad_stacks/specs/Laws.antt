@@ -5,7 +5,7 @@ use lib.ListN.{get_elem?}
 use prog.Atomic.{either}
 use Rattle.atomic_table.specs.Table.{keeps, stepped}
 use Rattle.ad_base.specs.declared.place.Place.{Place}
-use Rattle.ad_base.specs.Place.{packed}
+use Rattle.ad_base.specs.Place.{packed, place_at}
 use Rattle.ad_stacks.specs.declared.view.Given.{Given}
 use Rattle.ad_stacks.specs.declared.view.Stance.TheVariants as stance
 use Rattle.ad_stacks.specs.declared.view.Stage.TheVariants as stage
@@ -15,7 +15,7 @@ use Rattle.ad_stacks.specs.declared.view.Doing.TheVariants.{Spent, Worker, Mover
 use Rattle.ad_stacks.specs.History.{Event, took, put, refreshed, IsAbove, Lawful}
 use Rattle.ad_stacks.specs.Names.{Name, Lane, Record, Mark, index}
 use Rattle.ad_stacks.specs.Rule.{St, Kept}
-use Rattle.ad_stacks.specs.StackPlace.{place_at, record_word, IsStackPlace}
+use Rattle.ad_stacks.specs.StackPlace.{record_word, IsStackPlace}
 use Rattle.ad_stacks.specs.Steps.{hand, after_take, after_put, after_gone, after_record, after_refresh, after_mark, dealing, gathering}
 
 module _ (openings : List Place) where

@@ -1,8 +1,8 @@
 -- Where stacks lie, and the words that say so.
-use Rattle.std.specs.Prelude.{◌≡◌, ℕ, ◌+◌, ◌*◌, ◌/◌, ◌%◌, ◌^◌, ◌≤◌, ◌==◌, Option, None, Some, if◌then◌else◌}
+use Rattle.std.specs.Prelude.{◌≡◌, ℕ, ◌+◌, ◌*◌, ◌^◌, ◌≤◌, ◌==◌, Option, None, Some, if◌then◌else◌}
 use Rattle.ad_base.specs.declared.layout.TheConstants.{STACK_PAGES, STACK_REGION}
 use Rattle.ad_base.specs.declared.place.Place.{Place}
-use Rattle.ad_base.specs.Place.{packed, IsPlace}
+use Rattle.ad_base.specs.Place.{packed, place_at, IsPlace}
 
 -- a place in a region for stacks, of a stack's pages, with frame 0
 pub record IsStackPlace (p : Place) : Type 0 where
@@ -10,16 +10,6 @@ pub record IsStackPlace (p : Place) : Type 0 where
   pub for_stacks : STACK_REGION ≤ p.region
   pub size : p.pages ≡ STACK_PAGES
   pub no_frame : p.frame ≡ 0
-
--- the place that packs into this word
-unfoldable pub place_at : ℕ → Place
-place_at word = record {
-  region = word % 2 ^ 16;
-  start = word / 2 ^ 16 % 2 ^ 10;
-  pages = word / 2 ^ 26 % 2 ^ 10;
-  mapping = word / 2 ^ 36 % 2 ^ 12;
-  frame = word / 2 ^ 48 % 2 ^ 8;
-}
 
 -- the word is that of a stack's place
 pub record IsStackWord (word : ℕ) : Type 0 where

@@ -2,6 +2,7 @@
 use Rattle.std.specs.Prelude.{◌≡◌, ◌≢◌, ◌+◌, ◌<◌, ℕ, List, [], ◌∷◌, ◌++◌, slice_index, slice_set, ◌==◌, Option, None, Some, if◌then◌else◌}
 use Rattle.atomic_table.specs.Table.{Me, Step}
 use Rattle.ad_base.specs.declared.place.Place.{Place}
+use Rattle.ad_base.specs.Place.{place_at}
 use Rattle.ad_stacks.specs.declared.view.Given.{Given}
 use Rattle.ad_stacks.specs.declared.view.Hand.{Hand}
 use Rattle.ad_stacks.specs.declared.view.Stance.{Stance}
@@ -13,7 +14,7 @@ use Rattle.ad_stacks.specs.declared.view.Doing.{Doing}
 use Rattle.ad_stacks.specs.declared.view.Doing.TheVariants.{Spent, Worker, Mover}
 use Rattle.ad_stacks.specs.declared.words.TheConstants.{NUMBERS}
 use Rattle.ad_stacks.specs.History.{NeverFall}
-use Rattle.ad_stacks.specs.StackPlace.{place_at, lane_place, IsStackWord}
+use Rattle.ad_stacks.specs.StackPlace.{lane_place, IsStackWord}
 
 -- a seat of the table: its view, and no slots
 abbrev pub Sat : Type 0

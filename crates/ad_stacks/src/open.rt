@@ -12,7 +12,7 @@ use crate::stacks::{StackMover, StackSeat, Stacks};
 use crate::steps::ONE_LANE;
 use crate::table::{Deal, Seat, StackTable};
 use crate::words::{LANES, WORDS};
-use ad_base::{OutOfMemory, Place};
+use ad_base::{OutOfMemory, Place, zero_words};
 use std::alloc::Global;
 
 impl Stacks {
@@ -67,7 +67,7 @@ fn words_of(alloc: Global, places: &[Place]) -> Result<Vec<u64>, OutOfMemory>
     requires places { All IsStackPlace places.now }
     ensures { IfOk result (λ words. AreWords words.items (laid places.now (length places.now))) }
 {
-    let mut words = zeros(alloc, WORDS)?;
+    let mut words = zero_words(alloc, WORDS)?;
     for lane in 0..places.len() {
         let place = places[lane];
         let word = place.pack();
@@ -75,14 +75,6 @@ fn words_of(alloc: Global, places: &[Place]) -> Result<Vec<u64>, OutOfMemory>
         words[LANES + usize::from(place.mapping)] = word + lane as u64 * ONE_LANE;
     }
     Ok(words)
-}
-
-/// So many words that are 0.
-fn zeros(alloc: Global, count: usize) -> Result<Vec<u64>, OutOfMemory>
-    ensures len { IfOk result (λ words. vec_len words ≡ count) }
-    ensures zero { IfOk result (λ words. All (λ word. word ≡ 0) words.items) }
-{
-    Ok(vec![in alloc; 0; count]?)
 }
 
 /// Splits off one seat for each of so many workers.

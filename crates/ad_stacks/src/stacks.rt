@@ -1,12 +1,13 @@
 //! The stacks of the workers: the table, its handles, and the calls that take no memory.
 
 ghost use Rattle.std.specs.Prelude.{◌≡◌, ◌≢◌, ◌<◌, ◌≤◌, [], ◌∷◌, ◌++◌, slice_index, IfSome};
+ghost use Rattle.ad_base.specs.Place.{place_at};
 ghost use Rattle.ad_stacks.specs.declared.view.Stance.TheVariants.{Rest, Holds};
 ghost use Rattle.ad_stacks.specs.declared.view.Doing.TheVariants.{Mover};
 ghost use Rattle.ad_stacks.specs.declared.view.Stage.TheVariants as stage;
 ghost use Rattle.ad_stacks.specs.History.{NeverFall, IsAbove};
 ghost use Rattle.ad_stacks.specs.Laws.{MayRecord};
-ghost use Rattle.ad_stacks.specs.StackPlace.{place_at, lane_place, IsStackPlace, IsStackWord};
+ghost use Rattle.ad_stacks.specs.StackPlace.{lane_place, IsStackPlace, IsStackWord};
 ghost use Rattle.ad_stacks.specs.Steps.{taken_by};
 ghost use Rattle.ad_stacks.specs.Private.Handles.{plan_of, refreshed_plan, IsAt, IsMover, IsWorker};
 

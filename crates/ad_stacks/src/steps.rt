@@ -1,12 +1,12 @@
 //! The steps of the table, one function each.
 
 ghost use Rattle.std.specs.Prelude.{◌≡◌, ◌≢◌, ◌<◌, [], ◌∷◌, ◌++◌, None, Some};
-ghost use Rattle.ad_base.specs.Place.{packed};
+ghost use Rattle.ad_base.specs.Place.{packed, place_at};
 ghost use Rattle.ad_stacks.specs.declared.view.Stance.TheVariants.{Rest, Holds};
 ghost use Rattle.ad_stacks.specs.declared.view.Stage.TheVariants as stage;
 ghost use Rattle.ad_stacks.specs.History.{NeverFall};
 ghost use Rattle.ad_stacks.specs.Laws.{MayRecord};
-ghost use Rattle.ad_stacks.specs.StackPlace.{place_at, lane_place, IsStackPlace, IsStackWord};
+ghost use Rattle.ad_stacks.specs.StackPlace.{lane_place, IsStackPlace, IsStackWord};
 ghost use Rattle.ad_stacks.specs.Steps.{after_take, after_put, after_gone, after_record, after_refresh, after_mark, taken_by, to_mark_by};
 ghost use Rattle.ad_stacks.specs.Private.Handles.{plan_of, IsAt, IsMover, IsOwing, IsWorker};
 

@@ -6,23 +6,23 @@ use Rattle.ad_base.specs.declared.image.Image.{Image}
 use Rattle.ad_base.specs.declared.layout.TheConstants.{INSTRUCTION_BYTES, STUB_PAGES, TABLE_PAGES}
 use Rattle.ad_base.specs.declared.place.Place.{Place}
 use Rattle.ad_base.specs.Image.{text_image}
-use Rattle.ad_symbolic.specs.AddressSpace.{AddressSpace}
-use Rattle.ad_isa.specs.Step.{Returns}
+use Rattle.ad_symbolic.specs.AddressSpace.{AddressSpace, space_of}
+use Rattle.ad_isa.specs.Finish.{Returns}
 use Rattle.ad_symbolic.specs.Machine.{SymbolicOutcome, fresh_stack}
 use Rattle.ad_symbolic.specs.Replay.{Asked}
 use Rattle.ad_symbolic.specs.Value.{Byte}
 use Rattle.ad_symbolic.specs.declared.value.Value.{Value}
 
 -- an image, with no data and a fresh stack
-abbrev pub space_of : Image → AddressSpace
-space_of i = record { image = i; writable = []; fixed = []; stack = fresh_stack }
+abbrev pub fresh_space : Image → AddressSpace
+fresh_space i = space_of i [] [] fresh_stack
 
 -- a run that ended with these: a byte of the data of each part, a note, a word of the queue and what it returns
 abbrev pub ended_with : Image → Byte → Byte → Value → Value → Value → SymbolicOutcome
 ended_with i writable fixed note word returned = record {
   finish = Returns returned;
   memory = record {
-    space = record { image = i; writable = writable ∷ []; fixed = fixed ∷ []; stack = fresh_stack };
+    space = space_of i (writable ∷ []) (fixed ∷ []) fresh_stack;
     notes = note ∷ [];
     queue = word ∷ [];
   };

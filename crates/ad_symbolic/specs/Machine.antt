@@ -2,9 +2,11 @@
 -- stack; modules never move here.
 use Rattle.std.specs.Prelude.{ℕ, zero, suc, ◌+◌, ◌*◌, ◌%◌, Bool, true, false, ◌==◌, if◌then◌else◌, List, ◌∷◌, ◌++◌, take, map, replicate, slice_index_or, Option, Some, None, Result, Ok, Err}
 use Rattle.ad_base.specs.declared.layout.TheConstants.{FETCH_BYTES, GATE, PAGE_BYTES, STACK_PAGES}
+use Rattle.ad_base.specs.declared.end.End.{End}
 use Rattle.ad_base.specs.declared.end.End.TheVariants as ends
 use Rattle.ad_isa.specs.Domain.{Domain, ◌>>=◌}
-use Rattle.ad_isa.specs.Step.{Ends, Finish, Finishes, Goes, Next, Returns, State, Storage, step}
+use Rattle.ad_isa.specs.Finish.{Ends, Finish, Returns}
+use Rattle.ad_isa.specs.Step.{Finishes, Goes, Next, State, Storage, step}
 use Rattle.ad_isa.specs.Table.{decoded}
 use Rattle.ad_isa.specs.declared.instr.Alu.TheVariants.{Add}
 use Rattle.ad_isa.specs.declared.instr.Instr.{Instr}
@@ -15,7 +17,7 @@ use Rattle.ad_symbolic.specs.declared.value.Value.TheVariants.{At, Num}
 use Rattle.ad_symbolic.specs.declared.value.Part.TheVariants.{Movable, Stack}
 use Rattle.ad_symbolic.specs.declared.value.Reason.{Reason}
 use Rattle.ad_symbolic.specs.declared.value.Value.{Value}
-use Rattle.ad_symbolic.specs.AddressSpace.{AddressSpace, fetched_value, part_bytes}
+use Rattle.ad_symbolic.specs.AddressSpace.{AddressSpace, fetched_value, loaded_value, part_bytes, stored_value}
 
 -- what the machine keeps beside its registers: its address space, the notes and the device queue
 pub record Memory : Type 0 where
@@ -36,10 +38,19 @@ abbrev pub known : Option Instr → Result (Option Instr) Reason
 known None = Err Arithmetic
 known (Some i) = if has_row i then Ok (Some i) else Err Arithmetic
 
+-- how a call ends by a store, and what it leaves
+abbrev pub after_store : Memory → Result AddressSpace End → Option End × Memory
+after_store m (Ok space) = (None, record m { space = space })
+after_store m (Err end) = (Some end, m)
+
+-- no service is clear so far
 abbrev pub symbolic_storage : Storage Value Memory Reason
 symbolic_storage = record {
   fetch = λ m at. fetched_value m.space at >>= λ found. Ok (found, m);
   decode = λ word. known (decoded word);
+  load = λ m size signed at. loaded_value size signed m.space at >>= λ found. Ok (found, m);
+  store = λ m size value at. stored_value size value m.space at >>= λ left. Ok (after_store m left);
+  service = λ m number a0. Err Arithmetic;
 }
 
 -- comparisons depend on how long the parts are

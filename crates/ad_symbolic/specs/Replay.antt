@@ -5,13 +5,13 @@ use Rattle.ad_base.specs.declared.end.End.{End}
 use Rattle.ad_base.specs.declared.end.End.TheVariants as ends
 use Rattle.ad_base.specs.declared.image.Image.{Image}
 use Rattle.ad_base.specs.Book.{Contents}
-use Rattle.ad_core.specs.Turn.{opening_contents}
+use Rattle.ad_base.specs.Segments.{bytes_of_role, is_data, is_fixed_data}
 use Rattle.ad_symbolic.specs.Value.{Byte, Number, OfAddress}
 use Rattle.ad_symbolic.specs.declared.value.Value.TheVariants.{At, Num}
 use Rattle.ad_symbolic.specs.declared.value.Reason.{Reason}
 use Rattle.ad_symbolic.specs.declared.value.Value.{Value}
-use Rattle.ad_symbolic.specs.AddressSpace.{numbers_of}
-use Rattle.ad_isa.specs.Step.{Aborts, Ends, Finish, Returns}
+use Rattle.ad_symbolic.specs.AddressSpace.{numbers_of, space_of}
+use Rattle.ad_isa.specs.Finish.{Aborts, Ends, Finish, Returns}
 use Rattle.ad_symbolic.specs.Machine.{SymbolicOutcome, Run, fresh_stack, symbolic_call}
 
 -- nothing of it comes from an address
@@ -28,11 +28,18 @@ is_number_end (Returns v) = is_number v
 is_number_end (Aborts v) = is_number v
 is_number_end (Ends end) = true
 
+-- the data of the movable part, and of the immovable one, that a run left
+abbrev pub writable_of : SymbolicOutcome → List Byte
+writable_of o = bytes_of_role is_data o.memory.space.movable
+
+abbrev pub fixed_data_of : SymbolicOutcome → List Byte
+fixed_data_of o = bytes_of_role is_fixed_data o.memory.space.fixed
+
 -- A run keeps no address: at its end no byte of the data of either part, no note, no word of the device
 -- queue and no number that is returned or aborted with comes from one.
 abbrev pub keeps_none : SymbolicOutcome → Bool
 keeps_none o =
-    list_all is_number_byte o.memory.space.writable && list_all is_number_byte o.memory.space.fixed
+    list_all is_number_byte (writable_of o) && list_all is_number_byte (fixed_data_of o)
     && list_all is_number o.memory.notes && list_all is_number o.memory.queue && is_number_end o.finish
 
 -- the number of a value, which is none where it comes from an address
@@ -76,7 +83,7 @@ pub record Asked : Type 0 where
 abbrev pub run_of : Image → ℕ → Kept → Asked → Run
 run_of i fuel k a =
     symbolic_call fuel a.offset a.args
-    (record { space = record { image = i; writable = k.writable; fixed = k.fixed; stack = fresh_stack }; notes = []; queue = k.queue })
+    (record { space = space_of i k.writable k.fixed fresh_stack; notes = []; queue = k.queue })
 
 abbrev pub answer_of : Run → Answer
 answer_of (Ok o) = if keeps_none o then Clear (end_of o.finish) (map number_or_zero o.memory.notes) else Keeps
@@ -85,7 +92,7 @@ answer_of (Err u) = NotClear u.reason u.step
 -- what a call leaves, if it is clear
 abbrev pub left_by : Run → Option Kept
 left_by (Ok o) =
-    if keeps_none o then Some (record { writable = o.memory.space.writable; fixed = o.memory.space.fixed; queue = o.memory.queue }) else None
+    if keeps_none o then Some (record { writable = writable_of o; fixed = fixed_data_of o; queue = o.memory.queue }) else None
 left_by (Err u) = None
 
 -- the answers for calls in order, each beginning with what the call before left; behind the first that isn't
@@ -95,9 +102,12 @@ answers_from i fuel k [] = []
 answers_from i fuel None (a ∷ more) = Lost ∷ answers_from i fuel None more
 answers_from i fuel (Some k) (a ∷ more) = answer_of (run_of i fuel k a) ∷ answers_from i fuel (left_by (run_of i fuel k a)) more
 
--- it begins with what the image's book holds before the first call
+-- what a module keeps before its first call
+abbrev pub opened : Image → Kept
+opened i = record { writable = numbers_of i.writable; fixed = numbers_of i.fixed_data; queue = [] }
+
 unfoldable pub replay : Image → ℕ → List Asked → List Answer
-replay i fuel calls = answers_from i fuel (Some (kept_of (opening_contents i))) calls
+replay i fuel calls = answers_from i fuel (Some (opened i)) calls
 
 abbrev pub is_clear : Answer → Bool
 is_clear (Clear end notes) = true

@@ -10,7 +10,7 @@ ghost use Rattle.ad_symbolic.specs.declared.value.Part.TheVariants.{Movable, Sta
 ghost use Rattle.ad_symbolic.specs.declared.value.Part.{Part};
 ghost use Rattle.ad_symbolic.specs.AddressSpace.{fetched_value};
 ghost use Rattle.ad_symbolic.specs.Replay.{Clear, Keeps, Lost, NotClear, clear_calls, keeps_none, replay};
-ghost use Rattle.ad_symbolic.specs.Examples.{asked, ended_with, fixed_place, image_of, jump_words, space_of, sum_words};
+ghost use Rattle.ad_symbolic.specs.Examples.{asked, ended_with, fixed_place, image_of, fresh_space, jump_words, sum_words};
 
 use ad_base::End;
 use ad_isa::Test;
@@ -54,15 +54,15 @@ pub fn law_worked_comparisons()
 /// What is found where an instruction is fetched: in the stack, which may not be fetched, beside it and far
 /// from it; and at numbers before and behind all regions.
 pub fn law_worked_fetches()
-    ensures denied { (i : Image) → fetched_value (space_of i) (At Stack 16) ≡ Ok (Err End.Denied) }
-    ensures misaligned { (i : Image) → fetched_value (space_of i) (At Stack 18) ≡ Ok (Err End.Misaligned) }
-    ensures behind { (i : Image) → fetched_value (space_of i) (At Stack 16384) ≡ Ok (Err End.Fault) }
-    ensures far_behind { (i : Image) → fetched_value (space_of i) (At Stack 20476) ≡ Ok (Err End.Fault) }
-    ensures a_page_behind { (i : Image) → fetched_value (space_of i) (At Stack 20480) ≡ Err Address }
-    ensures before { (i : Image) → fetched_value (space_of i) (At Stack (2 ^ 64 - 4096)) ≡ Ok (Err End.Fault) }
-    ensures far_before { (i : Image) → fetched_value (space_of i) (At Stack (2 ^ 64 - 4100)) ≡ Err Address }
-    ensures below_all_places { (i : Image) → fetched_value (space_of i) (Num 0x7fffc) ≡ Ok (Err End.Fault) }
-    ensures above_all_places { (i : Image) → fetched_value (space_of i) (Num (2 ^ 34)) ≡ Ok (Err End.Fault) }
+    ensures denied { (i : Image) → fetched_value (fresh_space i) (At Stack 16) ≡ Ok (Err End.Denied) }
+    ensures misaligned { (i : Image) → fetched_value (fresh_space i) (At Stack 18) ≡ Ok (Err End.Misaligned) }
+    ensures behind { (i : Image) → fetched_value (fresh_space i) (At Stack 16384) ≡ Ok (Err End.Fault) }
+    ensures far_behind { (i : Image) → fetched_value (fresh_space i) (At Stack 20476) ≡ Ok (Err End.Fault) }
+    ensures a_page_behind { (i : Image) → fetched_value (fresh_space i) (At Stack 20480) ≡ Err Address }
+    ensures before { (i : Image) → fetched_value (fresh_space i) (At Stack (2 ^ 64 - 4096)) ≡ Ok (Err End.Fault) }
+    ensures far_before { (i : Image) → fetched_value (fresh_space i) (At Stack (2 ^ 64 - 4100)) ≡ Err Address }
+    ensures below_all_places { (i : Image) → fetched_value (fresh_space i) (Num 0x7fffc) ≡ Ok (Err End.Fault) }
+    ensures above_all_places { (i : Image) → fetched_value (fresh_space i) (Num (2 ^ 34)) ≡ Ok (Err End.Fault) }
 {}
 
 /// A run keeps an address where a byte of the data of either part, a note, a word of the device queue or the

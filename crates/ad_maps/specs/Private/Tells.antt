@@ -3,13 +3,13 @@ use Rattle.std.specs.Prelude.{◌≡◌, ◌≢◌, ℕ, ◌/◌, ◌≤◌, sli
 use Rattle.atomic_table.specs.Table.{Step}
 use Rattle.ad_base.specs.declared.layout.TheConstants.{REGION_BYTES, MAPPINGS}
 use Rattle.ad_base.specs.declared.place.Place.{Place}
-use Rattle.ad_base.specs.Place.{base_of, packed, IsPlace}
+use Rattle.ad_base.specs.Place.{base_of, packed, IsPlace, place_at}
 use Rattle.ad_maps.specs.declared.shape.Shape.{Shape}
 use Rattle.ad_maps.specs.declared.view.Act.TheVariants as act
 use Rattle.ad_maps.specs.declared.view.Stance.TheVariants as stance
 use Rattle.ad_maps.specs.declared.view.Made.{Made}
 use Rattle.ad_maps.specs.Ledger.{reads_of, NeverFall}
-use Rattle.ad_maps.specs.MapPlace.{place_at, nowhere, cell_word, cells_of, IsPlaceOf}
+use Rattle.ad_maps.specs.MapPlace.{nowhere, cell_word, cells_of, IsPlaceOf}
 use Rattle.ad_maps.specs.Steps.{Sat, made, Becomes, after_read, after_act, after_leave, after_look, after_switch}
 use Rattle.ad_maps.specs.Private.Handles.{acts_of, stance_of, pinned_by, plan_of}
 

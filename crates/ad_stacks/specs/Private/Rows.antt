@@ -2,11 +2,12 @@
 use Rattle.std.specs.Prelude.{◌≢◌, ℕ, zero, suc, ◌+◌, ◌/◌, ◌%◌, ◌^◌, ◌<◌, ◌==◌, List, [], ◌∷◌, ◌++◌, slice_index, if◌then◌else◌}
 use Rattle.ad_base.specs.declared.ledger.Kind.TheVariants.{Stack}
 use Rattle.ad_base.specs.declared.ledger.Row.{Row}
+use Rattle.ad_base.specs.Place.{place_at}
 use Rattle.ad_stacks.specs.declared.view.Hand.{Hand}
 use Rattle.ad_stacks.specs.declared.view.Stance.TheVariants as stance
 use Rattle.ad_stacks.specs.declared.words.TheConstants.{LANES, NUMBERS}
 use Rattle.ad_stacks.specs.Seen.{SeatSeen}
-use Rattle.ad_stacks.specs.StackPlace.{place_at, IsStackWord}
+use Rattle.ad_stacks.specs.StackPlace.{IsStackWord}
 use Rattle.ad_stacks.specs.Steps.{hand}
 
 -- the row of a record word and a mark

@@ -7,7 +7,7 @@ use Rattle.ad_base.specs.Image.{IsWhole, zeros}
 use Rattle.ad_base.specs.declared.image.Export.{Export}
 use Rattle.ad_base.specs.Place.{IsPlace}
 use Rattle.ad_core.specs.Plain.{first_registers, plain_call, plain_step, plain_run}
-use Rattle.ad_core.specs.Segments.{fetched}
+use Rattle.ad_core.specs.Memory.{fetched}
 use Rattle.ad_core.specs.Turn.{IsTurn, opening_contents}
 use Rattle.ad_isa.specs.Fields.{funct3, funct7, i_immediate, opcode, rd, rs1, rs2, u_immediate}
 use Rattle.ad_isa.specs.Rows.{effect}

@@ -1,0 +1,115 @@
+-- Where an address lies among pieces that stand one behind the other, and among those of a module and a stack.
+use Rattle.std.proofs.Common.{◌≡◌, ◌⊎◌, inl, inr, ℕ, ◌+◌, ◌-◌, ◌*◌, ◌%◌, ◌<◌, ◌≤◌, List, [], ◌∷◌, ◌++◌, length, Option, None, Some, refl, sym, ap, subst, ◌∙◌, arith}
+use Rattle.std.proofs.lemmas.Bool.{cases_lt}
+use Rattle.std.proofs.lemmas.Bool.Decides.{nat_tests}
+use Rattle.ad_base.specs.declared.image.Image.{Image}
+use Rattle.ad_base.specs.declared.layout.TheConstants.{PAGE_BYTES, STACK_PAGES, WORD_BYTES}
+use Rattle.ad_base.specs.declared.place.Place.{Place}
+use Rattle.ad_base.specs.declared.role.Role.{Role}
+use Rattle.ad_base.specs.Image.{IsWhole, movable_pages}
+use Rattle.ad_base.specs.Layout.{fixed_roles, laid_out, movable_roles, rights_of, size_of, stack_roles}
+use Rattle.ad_base.specs.Place.{base_of}
+use Rattle.ad_base.specs.Segments.{Segment, holding}
+use Rattle.ad_core.specs.Image.{bytes_under, segments_of}
+use Rattle.ad_call.specs.declared.spot.Spot.{Spot}
+use Rattle.ad_call.specs.Call.{HasData}
+use Rattle.ad_call.specs.Private.Spots.{IsHeld, spot_at, spot_from, spot_in}
+use Rattle.ad_call.specs.Private.WholeWords.{base-whole, length-bytes_under, size-whole}
+
+-- a byte of the first piece
+pub spot-first : (size : Role → ℕ) (r : Role) (rs : List Role) (o : ℕ) → o < size r → spot_in size (r ∷ rs) o ≡ Some (record { role = r; offset = o })
+spot-first size r rs o below = grind (arith, nat_tests)
+
+-- a byte behind the first piece
+pub spot-behind : (size : Role → ℕ) (r : Role) (rs : List Role) (o : ℕ) → size r ≤ o → spot_in size (r ∷ rs) o ≡ spot_in size rs (o - size r)
+spot-behind size r rs o from = grind (arith, nat_tests)
+
+-- the bytes of these pieces
+abbrev total : (Role → ℕ) → List Role → ℕ
+total size [] = 0
+total size (r ∷ rs) = size r + total size rs
+
+-- segments that hold an address alike
+held-alike : (xs ys : List (Segment ℕ)) (bytes : Role → List ℕ) (at : ℕ) (o : Option Spot) → holding xs at ≡ holding ys at → IsHeld ys bytes at o → IsHeld xs bytes at o
+held-alike xs ys bytes at None same held = same ∙ held
+held-alike xs ys bytes at (Some spot) same held = (same ∙ held.0, held.1, held.2, held.3, held.4)
+
+-- the pieces are so long, and whole words
+record HasSizes (bytes : Role → List ℕ) (size : Role → ℕ) : Type 0 where
+  pub long : (r : Role) → length (bytes r) ≡ size r
+  pub words : (r : Role) → size r % WORD_BYTES ≡ 0
+
+module _ (bytes : Role → List ℕ) (size : Role → ℕ) (sizes : HasSizes bytes size) (at : ℕ) (rest : List (Segment ℕ)) where
+  -- an address before pieces or behind them is in none
+  holding-outside : (roles : List Role) (base : ℕ) → (at < base) ⊎ (base + total size roles ≤ at) → holding (laid_out base bytes roles ++ rest) at ≡ holding rest at
+  holding-outside [] base out = refl
+  holding-outside (r ∷ rs) base (inl before) =
+      let long = sizes.long r in
+      grind (arith, nat_tests, holding-outside rs (base + length (bytes r)) (inl (omega arith)))
+  holding-outside (r ∷ rs) base (inr behind) =
+      let long = sizes.long r in
+      grind (arith, nat_tests, holding-outside rs (base + length (bytes r)) (inr (omega arith)))
+
+  -- an address of the first piece
+  held-first : (r : Role) (rs : List Role) (base : ℕ) → base % WORD_BYTES ≡ 0 → base ≤ at → at < base + size r
+      → IsHeld (laid_out base bytes (r ∷ rs) ++ rest) bytes at (Some (record { role = r; offset = at - base }))
+  held-first r rs base from low high =
+      let long = sizes.long r in
+      let words = sizes.words r in
+      let found : holding (laid_out base bytes (r ∷ rs) ++ rest) at ≡ Some (record { base = base; bytes = bytes r; rights = rights_of r; role = r }) = grind (arith, nat_tests) in
+      let back : base ≡ at - (at - base) = omega arith in
+      (found ∙ ap (λ b. Some (record { base = b; bytes = bytes r; rights = rights_of r; role = r })) back, omega arith, omega arith, omega arith, omega arith)
+
+  -- an address behind the first piece
+  holding-behind : (r : Role) (rs : List Role) (base : ℕ) → base + size r ≤ at → holding (laid_out base bytes (r ∷ rs) ++ rest) at ≡ holding (laid_out (base + length (bytes r)) bytes rs ++ rest) at
+  holding-behind r rs base behind =
+      let long = sizes.long r in
+      grind (arith, nat_tests)
+
+  -- an address of the pieces is where it is counted from the first
+  held-within : (roles : List Role) (base : ℕ) → base % WORD_BYTES ≡ 0 → base ≤ at → at < base + total size roles
+      → IsHeld (laid_out base bytes roles ++ rest) bytes at (spot_in size roles (at - base))
+  held-within [] base from low high = absurd (omega arith)
+  held-within (r ∷ rs) base from low high = elim (cases_lt at (base + size r)) [
+    | inl here ↦ subst (λ o. IsHeld (laid_out base bytes (r ∷ rs) ++ rest) bytes at o) (sym (spot-first size r rs (at - base) (omega arith))) (held-first r rs base from low here)
+    | inr past ↦
+        let long = sizes.long r in
+        let words = sizes.words r in
+        let next = base + length (bytes r) in
+        let behind = held-within rs next (omega arith) (omega arith) (omega arith) in
+        let same : spot_in size rs (at - next) ≡ spot_in size (r ∷ rs) (at - base) = ap (λ n. spot_in size rs n) (omega arith) ∙ sym (spot-behind size r rs (at - base) (omega arith)) in
+        held-alike (laid_out base bytes (r ∷ rs) ++ rest) (laid_out next bytes rs ++ rest) bytes at (spot_in size (r ∷ rs) (at - base)) (holding-behind r rs base past)
+        (subst (λ o. IsHeld (laid_out next bytes rs ++ rest) bytes at o) same behind)
+  ]
+
+  -- a part before others
+  held-part : (roles : List Role) (base n : ℕ) (otherwise : Option Spot) → base % WORD_BYTES ≡ 0 → total size roles ≡ n → IsHeld rest bytes at otherwise
+      → IsHeld (laid_out base bytes roles ++ rest) bytes at (spot_from base n size roles at otherwise)
+  held-part roles base n otherwise from all held =
+      let segments = laid_out base bytes roles ++ rest in
+      let outside : (at < base) ⊎ (base + total size roles ≤ at) → spot_from base n size roles at otherwise ≡ otherwise → IsHeld segments bytes at (spot_from base n size roles at otherwise) =
+      λ out is. subst (λ o. IsHeld segments bytes at o) (sym is) (held-alike segments rest bytes at otherwise (holding-outside roles base out) held) in
+      elim (cases_lt at base) [
+        | inl before ↦ outside (inl before) (grind (arith, nat_tests))
+        | inr low ↦ elim (cases_lt at (base + n)) [
+          | inl high ↦
+              let is : spot_in size roles (at - base) ≡ spot_from base n size roles at otherwise = grind (arith, nat_tests) in
+              subst (λ o. IsHeld segments bytes at o) is (held-within roles base from low (omega arith))
+          | inr behind ↦ outside (inr (omega arith)) (grind (arith, nat_tests))
+        ]
+      ]
+
+-- Where an address lies: in the stack, else in the immovable part, else in the movable one.
+pub spotted : (i : Image) (under stack : Place) (at : ℕ) (stack_bytes fixed writable : List ℕ) → IsWhole i → length stack_bytes ≡ STACK_PAGES * PAGE_BYTES → HasData i writable fixed
+    → IsHeld (segments_of i under stack stack_bytes fixed writable) (bytes_under i under stack_bytes fixed writable) at (spot_at i under stack at)
+spotted i under stack at stack_bytes fixed writable whole long reaches =
+    let bytes = bytes_under i under stack_bytes fixed writable in
+    let size = size_of i in
+    let sizes : HasSizes bytes size = record { long = length-bytes_under i under stack_bytes fixed writable whole long reaches; words = size-whole i } in
+    let movable = laid_out (base_of under) bytes movable_roles in
+    let parts = laid_out (base_of i.fixed) bytes fixed_roles ++ movable in
+    let in_movable = spot_from (base_of under) (movable_pages i * PAGE_BYTES) size movable_roles at None in
+    let in_parts = spot_from (base_of i.fixed) (i.fixed.pages * PAGE_BYTES) size fixed_roles at in_movable in
+    held-part bytes size sizes at parts stack_roles (base_of stack) (STACK_PAGES * PAGE_BYTES) in_parts (base-whole stack) (omega arith)
+    (held-part bytes size sizes at movable fixed_roles (base_of i.fixed) (i.fixed.pages * PAGE_BYTES) in_movable (base-whole i.fixed) (omega (arith, whole.fixed_size))
+    (held-part bytes size sizes at [] movable_roles (base_of under) (movable_pages i * PAGE_BYTES) None (base-whole under) (omega arith) refl))

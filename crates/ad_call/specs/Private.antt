@@ -1,0 +1,5 @@
+-- Definitions that serve private functions alone.
+pub mod Held
+pub mod Spots
+pub mod Stored
+pub mod WholeWords

@@ -1,0 +1,8 @@
+-- How a call ends, over any domain of values.
+use Rattle.ad_base.specs.declared.end.End.{End}
+
+-- it returns a value, it gives up with a value, or an end that has no value
+pub data Finish (V : Type 0) : Type 0 where
+  Returns : V → Finish V
+  Aborts : V → Finish V
+  Ends : End → Finish V

@@ -1,0 +1,10 @@
+use Rattle.std.proofs.Common.{◌≡◌, ◌++◌, take}
+use Rattle.ad_kit.specs.ObjectFile.{relas_bytes, to_relas}
+use Rattle.ad_kit.specs.Private.Written.{AreRelasBegun}
+use Rattle.ad_kit.proofs.body.put_relas.Given as goal
+
+abbrev pub invariant-loop-k : goal.invariant-loop-k
+invariant-loop-k l = record {
+  bytes : l.body.items ≡ to_relas l.sections ++ relas_bytes (take l.k l.sections);
+  places : AreRelasBegun l.sections l.k l.places.items;
+}

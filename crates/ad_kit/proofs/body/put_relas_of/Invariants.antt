@@ -1,0 +1,6 @@
+use Rattle.std.proofs.Common.{◌≡◌, ◌++◌, flat_map, take}
+use Rattle.ad_kit.specs.ObjectFile.{rela}
+use Rattle.ad_kit.proofs.body.put_relas_of.Given as goal
+
+abbrev pub invariant-loop-k : goal.invariant-loop-k
+invariant-loop-k l = l.body.items ≡ l.fn.body.items ++ flat_map rela (take l.k l.relas)

@@ -1,0 +1,24 @@
+use Rattle.std.proofs.Common.{◌≡◌, List, ℕ, ◌++◌, append_assoc, flat_map, get_or, replicate, ap, ap₂, ◌∙◌}
+use Rattle.std.proofs.lemmas.List.{take_all}
+use Rattle.ad_kit.specs.ObjectFile.{place, symbol, symbol_at, symbol_names, symbols_bytes}
+use Rattle.ad_kit.specs.declared.object.KitSymbol.{KitSymbol}
+use Rattle.ad_kit.proofs.Bytes.{pieces_more}
+use Rattle.ad_kit.proofs.Numbers.{place_of_symbol}
+use Rattle.ad_kit.proofs.body.put_symbols.Goals as goal
+
+pub loop-k-preserved : goal.loop-k-preserved
+loop-k-preserved c =
+    let ys = c.args.symbols.now in
+    let k = c.loop-k.k in
+    let y = c.index-symbols-k.result in
+    let ns = symbol_names ys in
+    let name : c.entry.result ≡ place ns (get_or ys k y).name = c.entry.ensures ∙ place_of_symbol ys ns c.args.places.now k y c.requires c.loop-k-test.true in
+    let pushed = c.in_ok-put_symbol.ensures ∙ ap₂ (λ (n : ℕ) (z : KitSymbol). c.loop-k.body.items ++ symbol_at n z) name c.index-symbols-k.is in
+    pieces_more (symbol ns) (c.args.body.now.items ++ replicate 24 0) ys k y c.loop-k.body.items _ c.loop-k-test.true c.loop-k.invariant pushed
+
+pub returns : goal.returns
+unfolding symbols_bytes
+returns c =
+    let ys = c.args.symbols.now in
+    let f = symbol (symbol_names ys) in
+    c.loop-k.invariant ∙ ap (λ (xs : List KitSymbol). (c.args.body.now.items ++ replicate 24 0) ++ flat_map f xs) (take_all c.loop-k.k ys c.loop-k-test.false) ∙ append_assoc c.args.body.now.items (replicate 24 0) (flat_map f ys)

@@ -1,0 +1,6 @@
+use Rattle.std.proofs.Common.{◌≡◌, ◌++◌, flat_map, replicate, take}
+use Rattle.ad_kit.specs.ObjectFile.{symbol, symbol_names}
+use Rattle.ad_kit.proofs.body.put_symbols.Given as goal
+
+abbrev pub invariant-loop-k : goal.invariant-loop-k
+invariant-loop-k l = l.body.items ≡ (l.fn.body.items ++ replicate 24 0) ++ flat_map (symbol (symbol_names l.symbols)) (take l.k l.symbols)
