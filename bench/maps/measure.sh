@@ -1,7 +1,8 @@
-#!/bin/sh
-# Measures enter and leave of ad_maps against two bare atomic operations, on a copy of the repository: on one thread,
-# and on as many as there are processors. It proves the measuring code, so that it runs as the program would be built.
-set -eu
+#!/bin/bash
+# Measures enter and leave of ad_maps, on a copy of the repository: against two bare atomic operations, on one thread
+# and on as many as there are processors; after earlier moves; and with moves during the call. It proves the measuring
+# code, so that it runs as the program would be built.
+set -euo pipefail
 here=$(cd "$(dirname "$0")" && pwd)
 copy=$(mktemp -d)
 trap 'rm -rf "$copy"' EXIT
@@ -14,4 +15,4 @@ cat "$here/measure/measure.rt.txt" >>"$crate/src/tests.rt"
     cp "$here/measure/$file" "$crate/${file%.txt}"
 done
 cd "$crate"
-rt test | grep 'threads: \|^test result\|^logic='
+RT_SECONDS=600 rt test | grep '^    \|^test result\|^logic='

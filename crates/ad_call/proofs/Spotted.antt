@@ -1,19 +1,21 @@
 -- Where an address lies among pieces that stand one behind the other, and among those of a module and a stack.
-use Rattle.std.proofs.Common.{◌≡◌, ◌⊎◌, inl, inr, ℕ, ◌+◌, ◌-◌, ◌*◌, ◌%◌, ◌<◌, ◌≤◌, List, [], ◌∷◌, ◌++◌, length, Option, None, Some, refl, sym, ap, subst, ◌∙◌, arith}
-use Rattle.std.proofs.lemmas.Bool.{cases_lt}
+use Rattle.std.proofs.Common.{◌≡◌, ◌⊎◌, inl, inr, ℕ, ◌+◌, ◌-◌, ◌*◌, ◌/◌, ◌%◌, ◌^◌, ◌<◌, ◌≤◌, ◌&&◌, Bool, true, false, List, [], ◌∷◌, ◌++◌, length, Option, None, Some, refl, sym, ap, subst, ◌∙◌, arith}
+use Rattle.std.specs.Prelude.{nat_le}
+use Rattle.std.proofs.lemmas.Bool.{cases_lt, cond_both, leb-true}
 use Rattle.std.proofs.lemmas.Bool.Decides.{nat_tests}
 use Rattle.ad_base.specs.declared.image.Image.{Image}
-use Rattle.ad_base.specs.declared.layout.TheConstants.{PAGE_BYTES, STACK_PAGES, WORD_BYTES}
+use Rattle.ad_base.specs.declared.layout.TheConstants.{MODULE_REGION, PAGE_BYTES, REGION_BYTES, STACK_PAGES, WORD_BYTES}
 use Rattle.ad_base.specs.declared.place.Place.{Place}
 use Rattle.ad_base.specs.declared.role.Role.{Role}
+use Rattle.ad_base.specs.declared.role.Role.TheVariants.{Cells, Code, Constants, Data, Stack, Table}
 use Rattle.ad_base.specs.Image.{IsWhole, movable_pages}
-use Rattle.ad_base.specs.Layout.{fixed_roles, laid_out, movable_roles, rights_of, size_of, stack_roles}
+use Rattle.ad_base.specs.Layout.{fixed_roles, laid_out, movable_roles, rights_of, size_of, stack_roles, text_bytes}
 use Rattle.ad_base.specs.Place.{base_of}
 use Rattle.ad_base.specs.Segments.{Segment, holding}
 use Rattle.ad_core.specs.Image.{bytes_under, segments_of}
 use Rattle.ad_call.specs.declared.spot.Spot.{Spot}
 use Rattle.ad_call.specs.Call.{HasData}
-use Rattle.ad_call.specs.Private.Spots.{IsHeld, spot_at, spot_from, spot_in}
+use Rattle.ad_call.specs.Private.Spots.{IsHeld, bounds_of, is_apart, is_text_alone, spot_at, spot_from, spot_in}
 use Rattle.ad_call.specs.Private.WholeWords.{base-whole, length-bytes_under, size-whole}
 
 -- a byte of the first piece
@@ -23,6 +25,83 @@ spot-first size r rs o below = grind (arith, nat_tests)
 -- a byte behind the first piece
 pub spot-behind : (size : Role → ℕ) (r : Role) (rs : List Role) (o : ℕ) → size r ≤ o → spot_in size (r ∷ rs) o ≡ spot_in size rs (o - size r)
 spot-behind size r rs o from = grind (arith, nat_tests)
+
+-- an address in a part is the byte of a piece of it, and one before or behind it is not
+part-inside : (base n : ℕ) (size : Role → ℕ) (roles : List Role) (at : ℕ) (otherwise : Option Spot) → base ≤ at → at < base + n → spot_from base n size roles at otherwise ≡ spot_in size roles (at - base)
+part-inside base n size roles at otherwise low high = grind (arith, nat_tests)
+
+part-outside : (base n : ℕ) (size : Role → ℕ) (roles : List Role) (at : ℕ) (otherwise : Option Spot) → (base ≤ at → at < base + n → ⊥) → spot_from base n size roles at otherwise ≡ otherwise
+part-outside base n size roles at otherwise out = elim (cases_lt at base) [
+  | inl before ↦ grind (arith, nat_tests)
+  | inr low ↦ elim (cases_lt at (base + n)) [
+    | inl high ↦ absurd (out low high)
+    | inr behind ↦ grind (arith, nat_tests)
+  ]
+]
+
+module _ (i : Image) (under stack : Place) (at : ℕ) where
+  -- an address in the stack
+  pub spot-stack : base_of stack ≤ at → at < base_of stack + STACK_PAGES * PAGE_BYTES → spot_at i under stack at ≡ Some (record { role = Stack; offset = at - base_of stack })
+  spot-stack low high =
+      part-inside (base_of stack) (STACK_PAGES * PAGE_BYTES) (size_of i) stack_roles at _ low high ∙ spot-first (size_of i) Stack [] (at - base_of stack) (omega (arith, low, high))
+
+  -- an address in the text of the movable part, and neither in the stack nor in the immovable part
+  pub spot-text : (base_of stack ≤ at → at < base_of stack + STACK_PAGES * PAGE_BYTES → ⊥) → (base_of i.fixed ≤ at → at < base_of i.fixed + i.fixed.pages * PAGE_BYTES → ⊥)
+      → base_of under ≤ at → at < base_of under + text_bytes i.text_pages → spot_at i under stack at ≡ Some (record { role = Code; offset = at - base_of under })
+  spot-text no_stack no_fixed low high =
+      part-outside (base_of stack) (STACK_PAGES * PAGE_BYTES) (size_of i) stack_roles at _ no_stack
+      ∙ part-outside (base_of i.fixed) (i.fixed.pages * PAGE_BYTES) (size_of i) fixed_roles at _ no_fixed
+      ∙ part-inside (base_of under) (movable_pages i * PAGE_BYTES) (size_of i) movable_roles at None low (omega (arith, high))
+      ∙ spot-first (size_of i) Code (Constants ∷ Table ∷ Cells ∷ Data ∷ []) (at - base_of under) (omega (arith, low, high))
+
+-- how far behind a base an address lies, as a difference of 64 bits says it
+pub inside : (base n at : ℕ) → at < 2 ^ 64 → base + n ≤ 2 ^ 64 → (at + (2 ^ 64 - base)) % 2 ^ 64 < n → at ≡ base + (at + (2 ^ 64 - base)) % 2 ^ 64
+inside base n at fits room below = omega (arith, fits, room, below)
+
+-- an address so far behind the first of a piece of this role, behind region 1, is found there with no other look
+pub record IsClear (i : Image) (under stack : Place) (role : Role) (offset at : ℕ) : Type 0 where
+  pub spot : spot_at i under stack at ≡ Some (record { role = role; offset = offset })
+  pub behind : ¬ (at / REGION_BYTES ≡ 1)
+
+module _ (i : Image) (under stack : Place) where
+  pub clear-stack : (offset : ℕ) → offset < (bounds_of i under stack).clear_stack → IsClear i under stack Stack offset (base_of stack + offset)
+  clear-stack offset =
+      cond_both (nat_le (MODULE_REGION * REGION_BYTES) (base_of stack)) (STACK_PAGES * PAGE_BYTES) 0 (λ n. offset < n → IsClear i under stack Stack offset (base_of stack + offset))
+      (λ high below. record {
+        spot = spot-stack i under stack (base_of stack + offset) (omega arith) (omega (arith, below)) ∙ ap (λ n. Some (record { role = Stack; offset = n })) (omega arith);
+        behind = let from : MODULE_REGION * REGION_BYTES ≤ base_of stack = leb-true (MODULE_REGION * REGION_BYTES) (base_of stack) high in omega (arith, from);
+      })
+      (λ low below. absurd (omega (arith, below)))
+
+  apart-from : (base bytes other more : ℕ) → is_apart base bytes other more ≡ true → (base + bytes ≤ other) ⊎ (other + more ≤ base)
+  apart-from base bytes other more e = elim (cases_lt other (base + bytes)) [
+    | inl into ↦ inr (grind (arith, nat_tests))
+    | inr behind ↦ inl behind
+  ]
+
+  both : (a b : Bool) → a && b ≡ true → (a ≡ true) × (b ≡ true)
+  both true b e = (refl, e)
+  both false b e = absurd cc
+
+  pub clear-text : (offset : ℕ) → offset < (bounds_of i under stack).clear_text → IsClear i under stack Code offset (base_of under + offset)
+  clear-text offset =
+      cond_both (is_text_alone i under stack) (text_bytes i.text_pages) 0 (λ n. offset < n → IsClear i under stack Code offset (base_of under + offset))
+      (λ alone below.
+      let parts = both (is_apart (base_of stack) (STACK_PAGES * PAGE_BYTES) (base_of under) (text_bytes i.text_pages) && is_apart (base_of i.fixed) (i.fixed.pages * PAGE_BYTES) (base_of under) (text_bytes i.text_pages)) (nat_le (MODULE_REGION * REGION_BYTES) (base_of under)) alone in
+      let others = both (is_apart (base_of stack) (STACK_PAGES * PAGE_BYTES) (base_of under) (text_bytes i.text_pages)) (is_apart (base_of i.fixed) (i.fixed.pages * PAGE_BYTES) (base_of under) (text_bytes i.text_pages)) parts.0 in
+      let no_stack = apart-from (base_of stack) (STACK_PAGES * PAGE_BYTES) (base_of under) (text_bytes i.text_pages) others.0 in
+      let no_fixed = apart-from (base_of i.fixed) (i.fixed.pages * PAGE_BYTES) (base_of under) (text_bytes i.text_pages) others.1 in
+      let at = base_of under + offset in
+      record {
+        spot = spot-text i under stack at (missed (base_of stack) (STACK_PAGES * PAGE_BYTES) no_stack below) (missed (base_of i.fixed) (i.fixed.pages * PAGE_BYTES) no_fixed below) (omega arith) (omega (arith, below))
+            ∙ ap (λ n. Some (record { role = Code; offset = n })) (omega arith);
+        behind = let from : MODULE_REGION * REGION_BYTES ≤ base_of under = leb-true (MODULE_REGION * REGION_BYTES) (base_of under) parts.1 in omega (arith, from);
+      })
+      (λ beside below. absurd (omega (arith, below)))
+    where
+      missed : (base bytes : ℕ) → (base + bytes ≤ base_of under) ⊎ (base_of under + text_bytes i.text_pages ≤ base) → offset < text_bytes i.text_pages → base ≤ base_of under + offset → base_of under + offset < base + bytes → ⊥
+      missed base bytes (inl before) below low high = omega (arith, before, low, high)
+      missed base bytes (inr behind) below low high = omega (arith, behind, below, low)
 
 -- the bytes of these pieces
 abbrev total : (Role → ℕ) → List Role → ℕ

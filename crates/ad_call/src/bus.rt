@@ -3,13 +3,13 @@
 ghost use Rattle.ad_base.specs.declared.layout.TheConstants.{PAGE_BYTES, STACK_PAGES};
 ghost use Rattle.ad_base.specs.Image.{IsWhole};
 ghost use Rattle.ad_call.specs.Call.{HasData};
-ghost use Rattle.ad_call.specs.Private.Spots.{spot_at};
+ghost use Rattle.ad_call.specs.Private.Spots.{bounds_of, IsLow};
 ghost use Rattle.std.specs.Prelude.{◌≡◌, ◌*◌, length};
 
 use crate::held::CallBytes;
-use crate::spot::{Spot, locate};
-use ad_base::{Device, GATE, Image, Notes, Place, REGION_BYTES};
-use ad_core::{Bus, Fetched, Refusal, Served, make_service, service_at};
+use crate::spot::{Bounds, Spot};
+use ad_base::{Device, Image, Notes, Place, Role};
+use ad_core::{Bus, Fetched, Refusal, Served, make_service};
 
 /// The parts of a module and a stack, as a call reaches them.
 #[derive(Drop)]
@@ -19,11 +19,14 @@ pub struct ModuleBus<'a> {
     pub under: Place,
     /// Where the stack lies.
     pub stack: Place,
+    pub bounds: Bounds,
     /// What the stack and the data hold.
     pub bytes: CallBytes,
     pub device: Device,
     pub notes: Notes,
     ghost whole: { IsWhole image.now },
+    ghost bounded: { bounds ≡ bounds_of image.now under stack },
+    ghost low: { IsLow bounds },
     ghost fresh: { length bytes.stack ≡ STACK_PAGES * PAGE_BYTES },
     ghost data: { HasData image.now bytes.writable bytes.fixed },
 }
@@ -47,48 +50,41 @@ impl Bus for ModuleBus<'_> {
     ghost whole_words = { λ b. segments-whole b.image.now b.under b.stack b.bytes.stack b.bytes.fixed b.bytes.writable b.whole b.fresh b.data };
 
     fn fetch(&mut self, at: u64) -> Fetched {
-        if at == GATE {
-            return Fetched::Gate;
+        let offset = at.wrapping_sub(self.bounds.text_base);
+        if offset < self.bounds.clear_text {
+            return self.word(Spot {
+                role: Role::Code,
+                offset,
+            });
         }
-        if at / REGION_BYTES == 1 {
-            return service_at(at);
-        }
-        match self.locate(at) {
-            Some(spot) => self.word(spot),
-            None => Fetched::Fault,
-        }
+        self.fetch_elsewhere(at)
     }
 
     fn load(&mut self, at: u64, size: u8) -> Result<u64, Refusal> {
-        if at / REGION_BYTES == 1 {
-            return Err(Refusal::Fault);
+        let offset = at.wrapping_sub(self.bounds.stack_base);
+        if offset < self.bounds.clear_stack {
+            let spot = Spot {
+                role: Role::Stack,
+                offset,
+            };
+            return Ok(self.number(spot, size));
         }
-        match self.locate(at) {
-            Some(spot) => Ok(self.number(spot, size)),
-            None => Err(Refusal::Fault),
-        }
+        self.load_elsewhere(at, size)
     }
 
     fn store(&mut self, at: u64, size: u8, value: u64) -> Result<(), Refusal> {
-        if at / REGION_BYTES == 1 {
-            return Err(Refusal::Fault);
+        let offset = at.wrapping_sub(self.bounds.stack_base);
+        if offset < self.bounds.clear_stack {
+            let spot = Spot {
+                role: Role::Stack,
+                offset,
+            };
+            return self.bytes.put(spot, size, value);
         }
-        match self.locate(at) {
-            Some(spot) => self.bytes.put(spot, size, value),
-            None => Err(Refusal::Fault),
-        }
+        self.store_elsewhere(at, size, value)
     }
 
     fn service(&mut self, number: u8, a0: u64) -> Served {
         make_service(number, a0, &mut self.notes, &mut self.device)
-    }
-}
-
-impl ModuleBus<'_> {
-    /// The byte at an address.
-    fn locate(&self, at: u64) -> Option<Spot>
-        ensures { result ≡ spot_at self.now.image.now self.now.under self.now.stack at }
-    {
-        locate(self.image, self.under, self.stack, at)
     }
 }

@@ -9,6 +9,7 @@ use ad_base::{WORD_BYTES, field_u16, field_u32, field_u64};
 use byteorder::{ByteOrder, LittleEndian};
 
 /// The number of so many bytes at an offset.
+#[inline(always)]
 pub fn number_at(bytes: &[u8], offset: u64, size: u8) -> u64
     requires size { IsSize size }
     requires inside { offset + size ≤ length bytes.now }
@@ -24,6 +25,7 @@ pub fn number_at(bytes: &[u8], offset: u64, size: u8) -> u64
 }
 
 /// Puts so many low bytes of a value at an offset.
+#[inline(always)]
 pub fn put_at(bytes: &mut [u8], offset: u64, size: u8, value: u64)
     requires size { IsSize size }
     requires inside { offset + size ≤ length bytes.old }

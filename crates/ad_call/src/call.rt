@@ -7,6 +7,7 @@ ghost use Rattle.ad_call.specs.Call.{after_call, HasData};
 
 use crate::bus::ModuleBus;
 use crate::held::CallBytes;
+use crate::spot::Bounds;
 use ad_base::{Args, Book, Device, Entry, Image, Notes, PAGE_BYTES, Place, STACK_PAGES};
 use std::mem;
 
@@ -41,6 +42,7 @@ pub fn run_call(image: &Image, book: &mut Book, call: Call, args: &Args, fuel: u
         image,
         under: call.under,
         stack: call.stack,
+        bounds: Bounds::of(image, call.under, call.stack),
         bytes: CallBytes::fresh(book.fixed.take(), book.writable.take()),
         device: mem::replace(&mut book.device, Device::new()),
         notes: Notes::new(),

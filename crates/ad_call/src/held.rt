@@ -79,6 +79,7 @@ impl CallBytes {
     }
 
     /// Puts so many low bytes of a value at a byte of a piece, if the piece may be stored to.
+    #[inline(always)]
     pub fn put(&mut self, spot: Spot, size: u8, value: u64) -> Result<(), Refusal>
         requires size { IsSize size }
         requires stack { spot.role ≡ Role.Stack → spot.offset + size ≤ length self.old.stack }

@@ -4,6 +4,7 @@
 mod bus;
 mod bytes;
 mod call;
+mod elsewhere;
 mod held;
 mod pieces;
 mod spot;

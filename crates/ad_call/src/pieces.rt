@@ -16,6 +16,7 @@ use ad_core::Fetched;
 
 impl ModuleBus<'_> {
     /// The word that is fetched at a byte of a piece.
+    #[inline(always)]
     pub fn word(&self, spot: Spot) -> Fetched
         requires { spot.offset + FETCH_BYTES ≤ size_of self.now.image.now spot.role }
         ensures { result ≡ word_in self.now.image.now spot }
@@ -30,6 +31,7 @@ impl ModuleBus<'_> {
     }
 
     /// The number of so many bytes from a byte of a piece on.
+    #[inline(always)]
     pub fn number(&self, spot: Spot, size: u8) -> u64
         requires size { IsSize size }
         requires aligned { spot.offset % size ≡ 0 }

@@ -1,6 +1,5 @@
 -- Serving the chain of a command, from what its steps came to.
 use Rattle.std.proofs.Common.{◌≡◌, ◌⊎◌, ℕ, List, None, Some, Result, Ok, Err, IfOk, IfErr, MatchResult, inl, inr, refl, sym, subst}
-use Rattle.std.specs.Borrow.{Bor}
 use Rattle.ad_base.specs.Outside.{Outside}
 use Rattle.ad_base.specs.declared.image.Image.{Image}
 use Rattle.ad_lines.specs.declared.ready.ReadyStep.{ReadyStep}
@@ -8,10 +7,8 @@ use Rattle.ad_lines.specs.Ready.{ready_steps}
 use Rattle.ad_script.specs.declared.script.Script.{Script}
 use Rattle.ad_command.specs.declared.trouble.Trouble.{Trouble}
 use Rattle.ad_command.specs.declared.trouble.Trouble.TheVariants.{Memory, NoExport, Usage}
-use Rattle.ad_command.specs.declared.words.Command as read
-use Rattle.ad_command.specs.declared.words.Command.TheVariants as variants
 use Rattle.ad_command.specs.Chain.{Chain, Done, Serves, ◌>>=◌, given, judged}
-use Rattle.ad_command.specs.Command.{Job, Lines, Work, command, job_in, job_of, work_of}
+use Rattle.ad_command.specs.Command.{Job, Work, command, job_in, job_of, work_of}
 use Rattle.ad_command.specs.Ending.{Ending, IsDone}
 use Rattle.ad_command.specs.Loading.{loaded_images, module_of, script_of}
 use Rattle.ad_command.specs.Words.{Command, command_of}
@@ -65,25 +62,15 @@ module _ (operand : List ℕ) (seed fuel : ℕ) where
         job-missing t (inr e) = subst (λ u. Serves old new (job_in operand seed fuel) (Err u)) (sym e) (job-goes (Err Memory) (serves-memory new (then_of script images)))
 
         -- the job that was done, or the reason why none was
-        pub job-ran : {P : Type 0} (outcome : P → Ending) (r : Result P Trouble) (at : ℕ) → at ≡ seed
-            → IfOk r (λ p. (steps : List ReadyStep) × (ready_steps images script.steps ≡ Ok steps) × IsDone (Lines (record { seed = at; fuel = fuel; script = script; images = images; steps = steps })) (outcome p))
+        pub job-ran : {P : Type 0} (Does : Job → Ending → Type 0) (outcome : P → Ending) (r : Result P Trouble) (at : ℕ) → at ≡ seed
+            → IfOk r (λ p. (steps : List ReadyStep) × (ready_steps images script.steps ≡ Ok steps) × Does (record { seed = at; fuel = fuel; script = script; images = images; steps = steps }) (outcome p))
             → IfErr r (λ t. ((line : ℕ) × (ready_steps images script.steps ≡ Err line) × (t ≡ NoExport line)) ⊎ (t ≡ Memory))
-            → (end : Result Job Trouble) × Serves old new (job_in operand seed fuel) end × MatchResult r (λ p. (j : Job) × (end ≡ Ok j) × IsDone (Lines j) (outcome p)) (λ t. end ≡ Err t)
-        job-ran outcome (Ok p) at same done fault =
+            → (end : Result Job Trouble) × Serves old new (job_in operand seed fuel) end × MatchResult r (λ p. (j : Job) × (end ≡ Ok j) × Does j (outcome p)) (λ t. end ≡ Err t)
+        job-ran Does outcome (Ok p) at same done fault =
             let j = job script images done.0 in
-            let is : IsDone (Lines j) (outcome p) = subst (λ n. IsDone (Lines (record { seed = n; fuel = fuel; script = script; images = images; steps = done.0 })) (outcome p)) same done.2 in
+            let is : Does j (outcome p) = subst (λ n. Does (record { seed = n; fuel = fuel; script = script; images = images; steps = done.0 }) (outcome p)) same done.2 in
             (Ok j, job-ready done.0 done.1, (j, refl, is))
-        job-ran outcome (Err t) at same done fault = (Err t, job-missing t fault, refl)
-
--- there is one kind of command
-pub record IsSeq (k : read.Command) : Type 0 where
-  pub script : Bor (List ℕ)
-  pub seed : ℕ
-  pub fuel : ℕ
-  pub is : k ≡ variants.Seq script seed fuel
-
-pub is-seq : (k : read.Command) → IsSeq k
-is-seq (variants.Seq script seed fuel) = record { script = script; seed = seed; fuel = fuel; is = refl }
+        job-ran Does outcome (Err t) at same done fault = (Err t, job-missing t fault, refl)
 
 -- words that are no command
 pub command-none : (o : Outside) (words : List (List ℕ)) → command_of words ≡ None → Serves o o (command words) (Err Usage)
@@ -95,14 +82,14 @@ pub command-some : (old new : Outside) (words : List (List ℕ)) (c : Command) (
 unfolding command
 command-some old new words c r e s = subst (λ x. Serves old new (given Usage x >>= work_of) r) e s
 
--- the lines of a job are work that was done, or isn't done for the same reason
-pub lines-ran : {P : Type 0} (outcome : P → Ending) (old new : Outside) (operand : List ℕ) (seed fuel : ℕ) (r : Result P Trouble) (end : Result Job Trouble)
-    → Serves old new (job_in operand seed fuel) end → MatchResult r (λ p. (j : Job) × (end ≡ Ok j) × IsDone (Lines j) (outcome p)) (λ t. end ≡ Err t)
-    → (last : Result Work Trouble) × Serves old new (job_in operand seed fuel >>= λ j. Done (Lines j)) last
+-- the work on a job was done, or isn't done for the same reason
+pub work-ran : {P : Type 0} (work_on : Job → Work) (outcome : P → Ending) (old new : Outside) (operand : List ℕ) (seed fuel : ℕ) (r : Result P Trouble) (end : Result Job Trouble)
+    → Serves old new (job_in operand seed fuel) end → MatchResult r (λ p. (j : Job) × (end ≡ Ok j) × IsDone (work_on j) (outcome p)) (λ t. end ≡ Err t)
+    → (last : Result Work Trouble) × Serves old new (job_in operand seed fuel >>= λ j. Done (work_on j)) last
     × MatchResult r (λ p. (work : Work) × (last ≡ Ok work) × IsDone work (outcome p)) (λ t. last ≡ Err t)
-lines-ran outcome old new operand seed fuel (Ok p) end serves is =
+work-ran work_on outcome old new operand seed fuel (Ok p) end serves is =
     let at : Serves old new (job_in operand seed fuel) (Ok is.0) = subst (Serves old new (job_in operand seed fuel)) is.1 serves in
-    (Ok (Lines is.0), serves-behind old new new (job_in operand seed fuel) (λ j. Done (Lines j)) is.0 (Ok (Lines is.0)) at (serves-done new (Lines is.0)), (Lines is.0, refl, is.2))
-lines-ran outcome old new operand seed fuel (Err t) end serves is =
+    (Ok (work_on is.0), serves-behind old new new (job_in operand seed fuel) (λ j. Done (work_on j)) is.0 (Ok (work_on is.0)) at (serves-done new (work_on is.0)), (work_on is.0, refl, is.2))
+work-ran work_on outcome old new operand seed fuel (Err t) end serves is =
     let at : Serves old new (job_in operand seed fuel) (Err t) = subst (Serves old new (job_in operand seed fuel)) is serves in
-    (Err t, serves-refused old new (job_in operand seed fuel) (λ j. Done (Lines j)) t at, refl)
+    (Err t, serves-refused old new (job_in operand seed fuel) (λ j. Done (work_on j)) t at, refl)

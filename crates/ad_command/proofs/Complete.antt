@@ -1,6 +1,6 @@
 -- A command whose words, files and exports are right is done.
 use Rattle.std.proofs.Common.{◌≡◌, ℕ, ◌≤◌, Bool, false, List, [], ◌∷◌, ◌++◌, length, map, Ok, refl, sym, subst}
-use Rattle.std.specs.Prelude.{codes, nat_lt, not, if◌then◌else◌, Some, None}
+use Rattle.std.specs.Prelude.{codes, nat_lt, if◌then◌else◌, Some, None}
 use Rattle.std.specs.List.{AllZip}
 use Rattle.std.proofs.lemmas.Bool.{le-ltb}
 use Rattle.ad_base.specs.declared.image.Image.{Image}
@@ -15,9 +15,9 @@ use Rattle.ad_script.specs.Script.{IsScript}
 use Rattle.ad_command.specs.declared.trouble.Trouble.TheVariants.{BadScript, Form, NoExport, TooLarge, Usage}
 use Rattle.ad_command.specs.declared.words.TheConstants.{FUEL, SEED}
 use Rattle.ad_command.specs.Chain.{Chain, Done, Gives, Judge, ModuleFile, Refuse, ScriptText, ◌>>=◌, each_in_turn, given, judged}
-use Rattle.ad_command.specs.Command.{Job, Lines, command, job_in, job_of, work_of}
+use Rattle.ad_command.specs.Command.{Job, Lines, Predicted, Work, command, job_in, job_of, work_of}
 use Rattle.ad_command.specs.Loading.{file_of, image_behind, images_behind, loaded_image, loaded_images, module_of, script_of}
-use Rattle.ad_command.specs.Words.{Seq, is_option}
+use Rattle.ad_command.specs.Words.{Command, Predict, Seq, is_option}
 use Rattle.ad_command.proofs.Chains.{gives-behind, gives-last}
 
 module _ (files : List ℕ → List ℕ) where
@@ -75,21 +75,33 @@ module _ (files : List ℕ → List ℕ) where
     in-gives script job = gives-behind files (script_of operand) (λ x. job_of module_of x seed fuel) (operand ∷ []) more s (Ok done) script job
 
 -- words that are a command
-by-words : (files : List ℕ → List ℕ) (operand : List ℕ) (names : List (List ℕ)) (j : Job) (b : Bool) → b ≡ false → Gives files (job_in operand SEED FUEL) names (Ok j)
-    → Gives files (given Usage (if not b then Some (Seq operand SEED FUEL) else None) >>= work_of) names (Ok (Lines j))
-by-words files operand names j b plain gives =
-    subst (λ x. Gives files (given Usage (if not x then Some (Seq operand SEED FUEL) else None) >>= work_of) names (Ok (Lines j))) (sym plain)
-    (gives-last files (job_in operand SEED FUEL) (λ k. Done (Lines k)) names j (Ok (Lines j)) gives (refl, refl))
+by-words : (files : List ℕ → List ℕ) (operand : List ℕ) (names : List (List ℕ)) (j : Job) (c : Command) (work_on : Job → Work) (b : Bool)
+    → work_of c ≡ (job_in operand SEED FUEL >>= λ k. Done (work_on k)) → b ≡ false → Gives files (job_in operand SEED FUEL) names (Ok j)
+    → Gives files (given Usage (if b then None else Some c) >>= work_of) names (Ok (work_on j))
+by-words files operand names j c work_on b is plain gives =
+    subst (λ x. Gives files (given Usage (if x then None else Some c) >>= work_of) names (Ok (work_on j))) (sym plain)
+    (subst (λ w. Gives files w names (Ok (work_on j))) (sym is) (gives-last files (job_in operand SEED FUEL) (λ k. Done (work_on k)) names j (Ok (work_on j)) gives (refl, refl)))
 
-pub right-is-done : (files : List ℕ → List ℕ) (operand : List ℕ) (s : Script) (ms : List Module) (steps : List ReadyStep)
-    → is_option operand ≡ false → length (files operand) ≤ FILE_BYTES → IsScript (files operand) s → AllZip (IsRight files) s.loads ms
-    → ready_steps (images_behind SEED s.workers [] ms) s.steps ≡ Ok steps
-    → Gives files (command (codes "seq" ∷ operand ∷ [])) (operand ∷ map (λ (l : Load). l.file) s.loads)
-    (Ok (Lines (record { seed = SEED; fuel = FUEL; script = s; images = images_behind SEED s.workers [] ms; steps = steps })))
-unfolding command loaded_images
-right-is-done files operand s ms steps plain short script right ready =
-    let images = images_behind SEED s.workers [] ms in
-    let names = map (λ (l : Load). l.file) s.loads in
-    let loaded : Gives files (loaded_images module_of SEED s) names (Ok images) = images-gives files SEED s.workers [] s.loads ms right in
-    by-words files operand (operand ∷ names) (record { seed = SEED; fuel = FUEL; script = s; images = images; steps = steps }) (is_option operand) plain
-    (in-gives files operand SEED FUEL s images steps names (script-gives files operand s short script) (job-gives files operand SEED FUEL s images steps names loaded ready))
+module _ (files : List ℕ → List ℕ) (operand : List ℕ) (s : Script) (ms : List Module) (steps : List ReadyStep)
+    (plain : is_option operand ≡ false) (short : length (files operand) ≤ FILE_BYTES) (script : IsScript (files operand) s) (right : AllZip (IsRight files) s.loads ms)
+    (ready : ready_steps (images_behind SEED s.workers [] ms) s.steps ≡ Ok steps) where
+  abbrev names : List (List ℕ)
+  names = map (λ (l : Load). l.file) s.loads
+
+  abbrev right_job : Job
+  right_job = record { seed = SEED; fuel = FUEL; script = s; images = images_behind SEED s.workers [] ms; steps = steps }
+
+  right-job-gives : Gives files (job_in operand SEED FUEL) (operand ∷ names) (Ok right_job)
+  unfolding loaded_images
+  right-job-gives =
+      let images = images_behind SEED s.workers [] ms in
+      let loaded : Gives files (loaded_images module_of SEED s) names (Ok images) = images-gives files SEED s.workers [] s.loads ms right in
+      in-gives files operand SEED FUEL s images steps names (script-gives files operand s short script) (job-gives files operand SEED FUEL s images steps names loaded ready)
+
+  pub right-seq-is-done : Gives files (command (codes "seq" ∷ operand ∷ [])) (operand ∷ names) (Ok (Lines right_job))
+  unfolding command
+  right-seq-is-done = by-words files operand (operand ∷ names) right_job (Seq operand SEED FUEL) Lines (is_option operand) refl plain right-job-gives
+
+  pub right-predict-is-done : Gives files (command (codes "predict" ∷ operand ∷ [])) (operand ∷ names) (Ok (Predicted right_job))
+  unfolding command
+  right-predict-is-done = by-words files operand (operand ∷ names) right_job (Predict operand SEED FUEL) Predicted (is_option operand) refl plain right-job-gives

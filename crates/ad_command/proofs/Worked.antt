@@ -16,6 +16,10 @@ pub no-task : (files : List ℕ → List ℕ) → Gives files (command (codes "n
 unfolding command
 no-task files = (refl, refl)
 
+pub no-operand : (files : List ℕ → List ℕ) → Gives files (command (codes "predict" ∷ [])) [] (Err Usage)
+unfolding command
+no-operand files = (refl, refl)
+
 pub an-option : (files : List ℕ → List ℕ) → Gives files (command (codes "seq" ∷ codes "-s" ∷ [])) [] (Err Usage)
 unfolding command
 an-option files = (refl, refl)

@@ -8,7 +8,7 @@ use Rattle.ad_script.specs.declared.script.Script.{Script}
 use Rattle.ad_command.specs.declared.trouble.Trouble.TheVariants.{NoExport, Usage}
 use Rattle.ad_command.specs.Chain.{Chain, Done, ◌>>=◌, given, judged}
 use Rattle.ad_command.specs.Loading.{loaded_images, module_of, script_of}
-use Rattle.ad_command.specs.Words.{Command, Seq, command_of}
+use Rattle.ad_command.specs.Words.{Command, Predict, Seq, command_of}
 
 -- a run that may begin: the seed of its places, the steps that a call may make, the script, the images of its modules,
 -- and its steps
@@ -20,9 +20,11 @@ pub record Job : Type 0 where
   pub steps : List ReadyStep
 
 -- What is done once all files of a command were read:
---     Lines job      the job's lines are run one after another, and the run is reported
+--     Lines job          the job's lines are run one after another, and the run is reported
+--     Predicted job      what the symbolic machine says of the job's calls is told
 pub data Work : Type 0 where
   Lines : Job → Work
+  Predicted : Job → Work
 
 -- the job of a script, where the module in the file of a name is had so: its modules are loaded, and each call finds its
 -- export
@@ -41,6 +43,7 @@ job_in name seed fuel = do
 -- the work of a command
 abbrev pub work_of : Command → Chain Work
 work_of (Seq script seed fuel) = job_in script seed fuel >>= λ j. Done (Lines j)
+work_of (Predict script seed fuel) = job_in script seed fuel >>= λ j. Done (Predicted j)
 
 -- the whole chain
 unfoldable pub command : List (List ℕ) → Chain Work

@@ -18,12 +18,13 @@ use Rattle.ad_lines.specs.LineLaws.{calls_of_module, draw_of, move_request, move
 use Rattle.ad_lines.specs.LineRun.{ModuleState, RunState}
 use Rattle.ad_lines.specs.Opening.{drawn_for, opening_drawn, opening_mappings, opening_requests}
 use Rattle.ad_place.specs.Choice.{places_of}
+use Rattle.ad_predict.specs.Prediction.{prediction}
 use Rattle.ad_relate.specs.ClearHistory.{RepliesAsReplayed}
 use Rattle.ad_report.specs.Report.{report}
 use Rattle.ad_command.specs.declared.top.Ended.{Ended}
 use Rattle.ad_command.specs.declared.trouble.Trouble.{Trouble}
 use Rattle.ad_command.specs.declared.trouble.Trouble.TheVariants.{Memory, Read, Write}
-use Rattle.ad_command.specs.Command.{Job, Lines, Work}
+use Rattle.ad_command.specs.Command.{Job, Lines, Predicted, Work}
 
 -- what work comes to: what the books of the modules hold, what came of the moves, a row for each mapping, and the
 -- text that is to be written
@@ -84,9 +85,17 @@ pub record IsSoundRun (opening : List Mapping) (j : Job) (e : Ending) : Type 0 w
 abbrev pub IsReported : Job → Ending → Type 0
 IsReported j e = e.text ≡ report j.script e.books e.moves e.rows
 
+-- Nothing was run: there are no books, no moves and no mappings, and the text is the prediction of the job's calls.
+pub record IsPredicted (j : Job) (e : Ending) : Type 0 where
+  pub no_book : e.books ≡ []
+  pub no_move : e.moves ≡ []
+  pub no_row : e.rows ≡ []
+  pub text_is : e.text ≡ prediction j.script j.images j.fuel j.steps
+
 -- what work comes to
 abbrev pub IsDone : Work → Ending → Type 0
 IsDone (Lines j) e = IsLineRun j e × IsSoundRun (opening_of_job j) j e × IsReported j e
+IsDone (Predicted j) e = IsPredicted j e
 
 -- the fault of a chain's end
 abbrev pub fault_of : {A : Type 0} → Result A Trouble → Option Trouble

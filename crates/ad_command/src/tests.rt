@@ -25,6 +25,29 @@ const STACK_END: [u32; 2] = [0x0001_0513, RETURN];
 /// A function that returns three more than its argument: `addi a0, a0, 1`, three times.
 const COUNT: [u32; 4] = [0x0015_0513, 0x0015_0513, 0x0015_0513, RETURN];
 
+/// A function that stores 8 bytes below its stack: `lui t0, 0xffffc; addi t0, t0, -8; add t0, t0, sp; sd zero, 0(t0)`.
+const BELOW: [u32; 5] = [0xffff_c2b7, 0xff82_8293, 0x0022_82b3, 0x0002_b023, RETURN];
+
+/// The same, 5,000 bytes below: `lui t0, 0xffffb; addi t0, t0, -904; add t0, t0, sp; sd zero, 0(t0)`.
+const FAR_BELOW: [u32; 5] = [0xffff_b2b7, 0xc782_8293, 0x0022_82b3, 0x0002_b023, RETURN];
+
+/// A function that calls the service at its second argument as often as its third says:
+/// `mv t2, ra; jalr a1; addi a2, a2, -1; bnez a2, -8; jr t2`.
+const REPEATED: [u32; 5] = [
+    0x0000_8393,
+    0x0005_80e7,
+    0xfff6_0613,
+    0xfe06_1ce3,
+    0x0003_8067,
+];
+
+/// A function that notes its argument, and returns it: `lui t0, 0x40`, `jalr x0, 16(t0)`.
+const NOTE: [u32; 2] = [0x0004_02b7, 0x0102_8067];
+
+/// A function that notes its argument twice, and gives up with it: `lui t1, 0x40`, `jalr ra, 16(t1)` twice,
+/// `jalr x0, 32(t1)`.
+const NOTE_TWICE: [u32; 4] = [0x0004_0337, 0x0103_00e7, 0x0103_00e7, 0x0203_0067];
+
 /// No instruction has this word.
 const NO_INSTRUCTION: [u32; 1] = [0];
 
@@ -56,6 +79,14 @@ fn seq<'a>(script: &'a [u8], module: &'a [u8]) -> Given<'a> {
         fetches: &[],
         most: ROOM,
         writes: &[],
+    }
+}
+
+/// `predict s` where nothing fails.
+fn predict<'a>(script: &'a [u8], module: &'a [u8]) -> Given<'a> {
+    Given {
+        words: &["predict", "s"],
+        ..seq(script, module)
     }
 }
 
@@ -207,6 +238,89 @@ fn whole_reports(rt: HostRuntime) -> Result<(), Fail> {
     Ok(())
 }
 
+#[test]
+fn predictions(rt: HostRuntime) -> Result<(), Fail> {
+    let cases: [(&[u32], &str, &str); 9] = [
+        (&SUM, "", "end calls 0\n"),
+        (
+            &SUM,
+            "call 0 m.e 2 3\n",
+            "call 2 w0 m.e: returned 5\nend calls 1\n",
+        ),
+        // The call returns an address, which is another number after each move.
+        (
+            &WHEREAMI,
+            "call 0 m.e\nmove m\ncall 0 m.e\n",
+            "call 2 w0 m.e: keeps\ncall 4 w0 m.e: lost\nend calls 2\n",
+        ),
+        (
+            &BELOW,
+            "call 0 m.e\n",
+            "call 2 w0 m.e: trap fault\nend calls 1\n",
+        ),
+        (
+            &FAR_BELOW,
+            "call 0 m.e\ncall 0 m.e\n",
+            "call 2 w0 m.e: unclear step 3 reason 3\ncall 3 w0 m.e: lost\nend calls 2\n",
+        ),
+        (
+            &NOTE,
+            "call 0 m.e 7\nmove m\ncall 0 m.e 18446744073709551615\n",
+            "call 2 w0 m.e: returned 7 notes 7\n\
+             call 4 w0 m.e: returned 18446744073709551615 notes 18446744073709551615\nend calls 2\n",
+        ),
+        (
+            &NOTE_TWICE,
+            "call 0 m.e 9\n",
+            "call 2 w0 m.e: abort 9 notes 9 9\nend calls 1\n",
+        ),
+        // The immovable part lies where `seq` puts it, from 7715426304 on: its stubs have no instruction, and its table
+        // isn't fetched from.
+        (
+            &JUMP,
+            "call 0 m.e 7715426304\ncall 0 m.e 7715430400\n",
+            "call 2 w0 m.e: trap illegal\ncall 3 w0 m.e: trap denied\nend calls 2\n",
+        ),
+        // Any part may lie at this number.
+        (
+            &JUMP,
+            "move m\ncall 0 m.e 262144\ncall 0 m.e 1048576\ncall 0 m.e 262144\n",
+            "call 3 w0 m.e: returned 262144\ncall 4 w0 m.e: unclear step 1 reason 3\n\
+             call 5 w0 m.e: lost\nend calls 3\n",
+        ),
+    ];
+    for (words, lines, text) in cases {
+        let module = object(&rt, words, b"e")?;
+        let script = format!(in rt.alloc(); "load m f\n{lines}")?;
+        let served = serve(&rt, &predict(script.as_bytes(), module.as_slice()))?;
+        expect_fault(&rt, &served, 0, "");
+        assert_eq!(rt; std::str::from_utf8(served.written.as_slice())?, text);
+        assert_eq!(rt;
+            (served.asked, served.books, served.moves, served.rows),
+            (2, 0, 0, 0)
+        );
+    }
+    Ok(())
+}
+
+#[test]
+fn predictions_that_are_refused(rt: HostRuntime) -> Result<(), Fail> {
+    let adder = object(&rt, &SUM, b"sum")?;
+    let sum = adder.as_slice();
+    let call: &[u8] = b"load m f\ncall 0 m.sum 2 3\n";
+    let none: &[u8] = b"load m f\ncall 0 m.sum\ncall 0 m.none\n";
+    let cases: [(&[u8], &[u8], u8, &str, usize); 3] = [
+        (b"", sum, 2, "adelie: script", 1),
+        (call, b"", 3, "adelie: module f: form", 2),
+        (none, sum, 3, "adelie: line 3: no export", 2),
+    ];
+    for (script, module, status, fault, asked) in cases {
+        let served = serve(&rt, &predict(script, module))?;
+        expect_refused(&rt, &served, status, fault, asked);
+    }
+    Ok(())
+}
+
 /// Asserts that the report of a module's lines begins so. The module's one export is `e`.
 fn expect_begin(
     rt: &(impl Abort + AllocGlobal),
@@ -227,7 +341,7 @@ fn expect_begin(
 
 #[test]
 fn replies(rt: HostRuntime) -> Result<(), Fail> {
-    let cases: [(&[u32], &str, &str); 12] = [
+    let cases: [(&[u32], &str, &str); 15] = [
         (&SUM, " 2 3", "returned 5"),
         (&SUM, "", "returned 0"),
         (&SUM, " 18446744073709551615 1", "returned 0"),
@@ -243,6 +357,14 @@ fn replies(rt: HostRuntime) -> Result<(), Fail> {
         (&JUMP, " 262144", "returned 262144"),
         // The stack lies from 12379062272 on, and has 16,384 bytes.
         (&STACK_END, "", "returned 12379078656"),
+        (&BELOW, "", "trap fault"),
+        (&FAR_BELOW, "", "trap fault"),
+        // The service at 262160 makes a note, and there is room for sixteen.
+        (
+            &REPEATED,
+            " 9 262160 17",
+            "trap notes notes 9 9 9 9 9 9 9 9 9 9 9 9 9 9 9 9",
+        ),
     ];
     for (words, args, end) in cases {
         let line = format!(in rt.alloc(); "call 0 m.e{args}\n")?;
@@ -344,9 +466,11 @@ fn the_longest_script(rt: HostRuntime) -> Result<(), Fail> {
 #[test]
 fn words_of_no_grammar(rt: HostRuntime) -> Result<(), Fail> {
     let module = object(&rt, &SUM, b"sum")?;
-    let lists: [&[&str]; 7] = [
+    let lists: [&[&str]; 9] = [
         &[],
         &["seq"],
+        &["predict"],
+        &["predict", "--fuel"],
         &["run", "s"],
         &["seq", "-"],
         &["seq", "--seed"],

@@ -3,7 +3,7 @@
 ghost use Rattle.std.specs.Prelude.{◌≡◌, ◌≢◌, ◌⊎◌, ℕ, List, [], length, map, string_bytes, Some, Result, Ok, Err, IfOk, IfErr, MatchResult};
 ghost use Rattle.ad_base.specs.Book.{contents_of};
 ghost use Rattle.ad_command.specs.Chain.{AreTold, Gives, Serves};
-ghost use Rattle.ad_command.specs.Command.{Job, Lines, Work, command, job_in};
+ghost use Rattle.ad_command.specs.Command.{Job, Lines, Predicted, Work, command, job_in};
 ghost use Rattle.ad_command.specs.Ending.{Answers, AsksFirstOf, IsDone, Leaves, Writes, fault_of};
 ghost use Rattle.ad_lines.specs.declared.ready.ReadyStep.{ReadyStep};
 ghost use Rattle.ad_lines.specs.LineLaws.{run_of_seed};
@@ -17,6 +17,7 @@ use crate::trouble::{Trouble, exit_status};
 use crate::words::{Command, read_words};
 use ad_base::{Book, Failed, Files, Image, Moved, OutOfMemory, Row, Sink, write_all};
 use ad_lines::{Finished, LineRun, Missing, ReadyStep, ready_steps};
+use ad_predict::predict;
 use ad_report::report;
 use ad_script::Script;
 use std::alloc::Global;
@@ -99,7 +100,7 @@ fn refused(alloc: Global, trouble: Trouble) -> Ended
     }
 }
 
-/// Writes the report of what was done.
+/// Writes the text of what was done.
 fn written<K: Sink>(prepared: Prepared, out: &mut K) -> Ended
     ensures status { result.status ≡ status_of result.fault }
     ensures books { result.books.items ≡ prepared.books.items }
@@ -130,6 +131,7 @@ fn prepare<F: Files>(alloc: Global, words: &[String], files: &mut F) -> Result<P
     };
     match command {
         Command::Seq { script, seed, fuel } => seq(alloc, files, script, seed, fuel),
+        Command::Predict { script, seed, fuel } => predicted(alloc, files, script, seed, fuel),
     }
 }
 
@@ -147,6 +149,47 @@ fn seq<F: Files>(
     let script = script_of(alloc, files, script)?;
     let loaded = load_images(alloc, files, &script, seed)?;
     run_job(alloc, &script, loaded, fuel)
+}
+
+/// Serves the chain of a script whose calls are predicted, and makes the prediction.
+fn predicted<F: Files>(
+    alloc: Global,
+    files: &mut F,
+    script: &str,
+    seed: u64,
+    fuel: u64,
+) -> Result<Prepared, Trouble>
+    ensures { (end : Result Job Trouble) × Serves (F.outside files.old) (F.outside files.new) (job_in script.now seed fuel) end
+        × MatchResult result (λ p. (job : Job) × (end ≡ Ok job) × IsDone (Predicted job) (record { books = map contents_of p.books.items; moves = p.moves.items; rows = p.ledger.items; text = p.text.items })) (λ t. end ≡ Err t) }
+{
+    let script = script_of(alloc, files, script)?;
+    let loaded = load_images(alloc, files, &script, seed)?;
+    predict_job(alloc, &script, &loaded, fuel)
+}
+
+/// Predicts the calls of a script, if each finds its export. Nothing is run.
+fn predict_job(
+    alloc: Global,
+    script: &Script,
+    loaded: &Loaded,
+    fuel: u64,
+) -> Result<Prepared, Trouble>
+    requires range { IsInRange script.now }
+    requires loaded { AreLoaded loaded.now.placer.seed script.now.workers loaded.now.images.items }
+    requires each { length script.now.loads ≡ length loaded.now.images.items }
+    ensures done { IfOk result (λ p. (steps : List ReadyStep) × (ready_steps loaded.now.images.items script.now.steps ≡ Ok steps)
+        × IsDone (Predicted (record { seed = loaded.now.placer.seed; fuel = fuel; script = script.now; images = loaded.now.images.items; steps = steps }))
+        (record { books = map contents_of p.books.items; moves = p.moves.items; rows = p.ledger.items; text = p.text.items })) }
+    ensures fault { IfErr result (λ t. ((line : ℕ) × (ready_steps loaded.now.images.items script.now.steps ≡ Err line) × (t ≡ Trouble.NoExport line)) ⊎ (t ≡ Trouble.Memory)) }
+{
+    let steps = ready(alloc, &loaded.images, script)?;
+    let text = predict(alloc, script, &loaded.images, &steps, fuel)?;
+    Ok(Prepared {
+        books: Vec::new(alloc),
+        moves: Vec::new(alloc),
+        ledger: Vec::new(alloc),
+        text,
+    })
 }
 
 /// Runs the lines of a script, if each call finds its export, and makes the report.

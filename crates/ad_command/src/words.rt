@@ -28,6 +28,15 @@ pub enum Command<'a> {
         /// Steps that a call may make at most.
         fuel: u64,
     },
+    /// Says of each call of a script what comes of it, wherever the movable parts and the stacks lie.
+    Predict {
+        /// The name of the script's file.
+        script: &'a str,
+        /// The seed of the choice of places: of those of the immovable parts.
+        seed: u64,
+        /// Steps that a call may make at most.
+        fuel: u64,
+    },
 }
 
 /// The command of these words, or `None` where they aren't of the grammar.
@@ -38,12 +47,14 @@ pub fn read_words(words: &[String]) -> Option<Command<'_>>
         return None;
     };
     let script = operand.as_str();
-    if task.as_str() == "seq" && !is_option(script) {
-        Some(Command::Seq {
-            script,
-            seed: SEED,
-            fuel: FUEL,
-        })
+    if is_option(script) {
+        return None;
+    }
+    let (seed, fuel) = (SEED, FUEL);
+    if task.as_str() == "seq" {
+        Some(Command::Seq { script, seed, fuel })
+    } else if task.as_str() == "predict" {
+        Some(Command::Predict { script, seed, fuel })
     } else {
         None
     }

@@ -1,5 +1,5 @@
 -- Memories and calls of worked examples.
-use Rattle.std.specs.Prelude.{ℕ, List, [], ◌∷◌}
+use Rattle.std.specs.Prelude.{ℕ, ◌+◌, ◌*◌, ◌%◌, ◌^◌, List, [], ◌∷◌}
 use Rattle.std.specs.List.{flat_map}
 use Rattle.byteorder.specs.Endian.{little_bytes}
 use Rattle.ad_base.specs.declared.end.End.{End}
@@ -7,7 +7,7 @@ use Rattle.ad_base.specs.declared.layout.TheConstants.{INSTRUCTION_BYTES}
 use Rattle.ad_base.specs.declared.role.Role.{Role}
 use Rattle.ad_base.specs.declared.role.Role.TheVariants.{Code, Constants, Data}
 use Rattle.ad_base.specs.Layout.{rights_of}
-use Rattle.ad_base.specs.Segments.{Access, Segment, Use}
+use Rattle.ad_base.specs.Segments.{Access, Fetch, Load, Segment, Store, Use}
 use Rattle.ad_core.specs.Memory.{Memory}
 use Rattle.ad_core.specs.Plain.{PlainOutcome, plain_call}
 
@@ -43,9 +43,27 @@ data_call args words = plain_call 100 0x100000 args 0 (code_and_data 0x100000 wo
 abbrev pub access : Use → ℕ → ℕ → Access
 access wanted at size = record { at = at; size = size; use_of = wanted }
 
--- jr a1, with this address in a1 and this number in a0, where these notes were made and the queue holds these words:
--- how the call ends, and the notes and the queue that it leaves
-abbrev pub service_reply : ℕ → ℕ → List ℕ → List ℕ → End × List ℕ × List ℕ
-service_reply at a0 notes queue =
-    let o = plain_call 100 0x100000 (a0 ∷ at ∷ []) 0 (record { segments = words_at Code 0x100000 (0x00058067 ∷ []) ∷ []; notes = notes; queue = queue }) in
+-- what an access does, as a number
+abbrev pub number_of_use : Use → ℕ
+number_of_use Fetch = 1
+number_of_use Load = 2
+number_of_use Store = 3
+
+-- a tally that tells accesses and their order apart, but for chance
+abbrev pub tally_with : ℕ → Access → ℕ
+tally_with tally access = (tally * 31 + (access.at + (access.size + number_of_use access.use_of * 16))) % 2 ^ 64
+
+-- A call of these words, with this number in a0 and this address in a1, where these notes were made and the queue holds
+-- these words: how it ends, and the notes and the queue that it leaves.
+abbrev pub reply_of : List ℕ → ℕ → ℕ → List ℕ → List ℕ → End × List ℕ × List ℕ
+reply_of words at a0 notes queue =
+    let o = plain_call 100 0x100000 (a0 ∷ at ∷ []) 0 (record { segments = words_at Code 0x100000 words ∷ []; notes = notes; queue = queue }) in
     (o.end, o.memory.notes, o.memory.queue)
+
+-- the same of jr a1
+abbrev pub service_reply : ℕ → ℕ → List ℕ → List ℕ → End × List ℕ × List ℕ
+service_reply = reply_of (0x00058067 ∷ [])
+
+-- and of li ra, 6 before it: the service returns to no multiple of 4
+abbrev pub misaligned_reply : ℕ → ℕ → List ℕ → List ℕ → End × List ℕ × List ℕ
+misaligned_reply = reply_of (0x00600093 ∷ 0x00058067 ∷ [])

@@ -4,7 +4,7 @@ ghost use Rattle.std.specs.Prelude.{◌≡◌, ◌-◌, ◌^◌, ℕ, List, [], 
 ghost use Rattle.ad_base.specs.Segments.{Fetch, Load, bytes_of_role, extents, is_data, is_fixed_data};
 ghost use Rattle.ad_core.specs.Memory.{Memory};
 ghost use Rattle.ad_core.specs.Plain.{plain_call};
-ghost use Rattle.ad_core.specs.Examples.{access, code_at, constants_at, data_call, service_reply};
+ghost use Rattle.ad_core.specs.Examples.{access, code_at, constants_at, data_call, misaligned_reply, service_reply};
 ghost use Rattle.ad_core.specs.Turn.{reached};
 ghost use Rattle.ad_base.specs.Book.{Contents};
 ghost use Rattle.ad_base.specs.declared.image.Image.{Image};
@@ -98,7 +98,8 @@ pub fn law_worked_accesses()
 {}
 
 /// Calls of a word of code that jumps to the address of a service, or to another one of region 1; a0 is its argument,
-/// and ra the gate. What the call replies is its end, its notes and the queue that it leaves.
+/// and ra the gate. What the call replies is its end, its notes and the queue that it leaves. A service that can't return
+/// to ra is made, and then the call ends.
 pub fn law_worked_services()
     ensures note { service_reply 0x40010 7 (replicate 15 1) [] ≡ (End.Returned 7, replicate 15 1 ++ 7 ∷ [], []) }
     ensures note_too_many { service_reply 0x40010 7 (replicate 16 1) [] ≡ (End.NotesFull, replicate 16 1, []) }
@@ -109,6 +110,8 @@ pub fn law_worked_services()
     ensures in_empty { service_reply 0x40040 7 [] [] ≡ (End.Returned 0, [], []) }
     ensures between { service_reply 0x40014 7 [] [] ≡ (End.Fault, [], []) }
     ensures behind { service_reply 0x40050 7 [] [] ≡ (End.Fault, [], []) }
+    ensures misaligned_return { misaligned_reply 0x40010 7 [] [] ≡ (End.Misaligned, 7 ∷ [], []) }
+    ensures abort_before_it { misaligned_reply 0x40020 7 [] [] ≡ (End.Abort 7, [], []) }
 {}
 
 /// The data of the parts, among the segments that a call reaches.

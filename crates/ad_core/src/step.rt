@@ -1,6 +1,6 @@
 //! Steps.
 
-ghost use Rattle.std.specs.Prelude.{◌≡◌, ◌≢◌, ◌%◌, ◌<◌, IfNone, Ok, Some};
+ghost use Rattle.std.specs.Prelude.{◌≡◌, ◌≢◌, ◌%◌, ◌<◌, ◌==◌, IfNone, Ok, Some};
 ghost use Rattle.ad_base.specs.Segments.{Load, Store, told};
 ghost use Rattle.ad_isa.specs.Numbers.{numbers};
 ghost use Rattle.ad_isa.specs.Step.{execute, perform, settle, step, Service};
@@ -106,7 +106,7 @@ fn load<B: Bus>(bus: &mut B, size: u8, signed: bool, at: u64) -> Result<u64, End
     ensures memory { B.memory bus.new ≡ B.memory bus.old }
     ensures track { B.track bus.new ≡ track_after B.rule (told Load size at) (B.track bus.old) }
 {
-    if at % u64::from(size) != 0 {
+    if !is_aligned(size, at) {
         return Err(End::Misaligned);
     }
     match bus.load(at, size) {
@@ -123,12 +123,25 @@ fn store<B: Bus>(bus: &mut B, size: u8, value: u64, at: u64) -> Result<(), End>
         ≡ (end_of_store result, untouched (B.memory bus.new)) }
     ensures track { B.track bus.new ≡ track_after B.rule (told Store size at) (B.track bus.old) }
 {
-    if at % u64::from(size) != 0 {
+    if !is_aligned(size, at) {
         return Err(End::Misaligned);
     }
     match bus.store(at, size, value) {
         Ok(()) => Ok(()),
         Err(refusal) => Err(end_of(refusal)),
+    }
+}
+
+/// Whether an address is a multiple of a size. The sizes are constants here, so that no division is made.
+fn is_aligned(size: u8, at: u64) -> bool
+    requires { IsSize size }
+    ensures { result ≡ (at % size == 0) }
+{
+    match size {
+        1 => true,
+        2 => at % 2 == 0,
+        4 => at % 4 == 0,
+        _ => at % 8 == 0,
     }
 }
 

@@ -5,7 +5,7 @@ mod emulated;
 
 use crate::call;
 use ad_base::{Args, End, FIRST_SERVICE, GATE, SERVICE_BYTES};
-use code_bus::{BASE, CodeBus};
+use code_bus::{BASE, CodeBus, FETCH, LOAD, STORE, with_access};
 
 #[test]
 fn calls_end_as_the_standard_has_it(rt: HostRuntime) {
@@ -127,4 +127,20 @@ fn calls_end_as_the_standard_has_it(rt: HostRuntime) {
         let end = call(&mut bus, entry, &args, 0, fuel);
         assert_eq!(rt; end, want, "from {entry}, with fuel {fuel}");
     }
+}
+
+#[test]
+fn a_bus_is_told_its_accesses_in_order(rt: HostRuntime) {
+    // ld a0, 0(a0); sd a1, 0(a0)
+    let mut bus = CodeBus::of([0x0005_3503, 0x00b5_3023, 0, 0]);
+    let mut args = Args::new();
+    args.push(BASE + 8);
+    // Then a0 is 0, where nothing lies.
+    let end = call(&mut bus, BASE, &args, 0, 100);
+    assert_eq!(rt; end, End::Fault);
+    let mut tally = with_access(0, BASE, 4, FETCH);
+    tally = with_access(tally, BASE + 8, 8, LOAD);
+    tally = with_access(tally, BASE + 4, 4, FETCH);
+    tally = with_access(tally, 0, 8, STORE);
+    assert_eq!(rt; bus.tally(), tally);
 }

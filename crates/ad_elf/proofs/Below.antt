@@ -1,5 +1,5 @@
 -- The first number below a bound that passes a test.
-use Rattle.std.proofs.Common.{◌≡◌, ℕ, zero, suc, ◌+◌, ◌<◌, Bool, true, false, cond, Option, Some, None, List, [], ◌∷◌, ◌++◌, append_assoc, refl, sym, ap, ap₂, ◌∙◌, inl, inr, arith, add-one}
+use Rattle.std.proofs.Common.{◌≡◌, ℕ, zero, suc, ◌+◌, ◌<◌, Bool, true, false, cond, Option, Some, None, unwrap_or, ◌⊎◌, List, [], ◌∷◌, ◌++◌, append_assoc, refl, sym, ap, ap₂, ◌∙◌, inl, inr, arith, add-one}
 use Rattle.std.specs.Option.{option_or}
 use Rattle.std.proofs.lemmas.Bool.{cases_order}
 use Rattle.ad_elf.specs.Below.{each, first, joined, total}
@@ -71,3 +71,24 @@ each_push_behind front f n old new x before pushed here =
     pushed ∙ ap₂ (λ (xs : List _) (y : _). xs ++ y ∷ []) before here ∙ append_assoc front (each f n) (f n ∷ []) ∙ ap (λ (xs : List _). front ++ xs) (sym (joined-more (λ i. f i ∷ []) n))
 
 pub ruleset loop_steps = (first-zero, first_more, first_here, total-zero, total-more, joined-zero, joined-more)
+
+-- where each fails, none is the first
+pub none_where_fails : (test : ℕ → Bool) (n : ℕ) → ((i : ℕ) → i < n → test i ≡ false) → first test n ≡ None
+unfolding first
+none_where_fails test zero fails = refl
+none_where_fails test (suc n) fails = rw (none_where_fails test n (λ i below. fails i (omega arith)), fails n (omega arith)) refl
+
+-- before the first each fails
+option_or_first : (o : Option ℕ) (b : Bool) (n k : ℕ) → option_or o (cond b (Some n) None) ≡ Some k → (o ≡ Some k) ⊎ ((o ≡ None) × (n ≡ k))
+option_or_first None true n k e = inr (refl, ap (λ (o : Option ℕ). unwrap_or o 0) e)
+option_or_first None false n k e = cc
+option_or_first (Some x) b n k e = inl e
+
+pub fails_before : (test : ℕ → Bool) (n k j : ℕ) → first test n ≡ Some k → j < k → test j ≡ false
+unfolding first
+fails_before test zero k j found below = cc
+fails_before test (suc n) k j found below =
+    elim (option_or_first (first test n) (test n) n k found) [
+      | inl before ↦ fails_before test n k j before below
+      | inr last ↦ fails_where_none test n j last.0 (omega (arith, last.1))
+    ]

@@ -3,7 +3,7 @@ use Rattle.std.proofs.Common.{◌≡◌, inl, inr, ℕ, suc, ◌+◌, ◌<◌, B
 use Rattle.std.specs.Option.{option_or}
 use Rattle.std.specs.List.{All}
 use Rattle.std.proofs.lemmas.Bool.{cases_Bool}
-use Rattle.std.proofs.lemmas.List.Elements.{All-cons, All-nil}
+use Rattle.std.proofs.lemmas.List.Elements.{All-cons, All-head, All-nil, All-tail}
 use Rattle.std.proofs.Math.Seq.{drop-cons}
 use Rattle.std.proofs.lemmas.List.{take_more}
 use Rattle.std.proofs.lemmas.List.Folds.{find-append}
@@ -37,3 +37,9 @@ find_none p (x ∷ xs) e =
       | inl passes ↦ absurd (some_is_some x (rw passes at e))
       | inr none ↦ All-cons (λ y. p y ≡ false) x xs none (find_none p xs (rw none at e))
     ]
+
+-- and where each fails, none is the first
+pub find_where_fails : {X : Type 0} (p : X → Bool) (xs : List X) → All (λ x. p x ≡ false) xs → find p xs ≡ None
+find_where_fails p [] all = refl
+find_where_fails p (x ∷ xs) all =
+    rw (All-head (λ y. p y ≡ false) x xs all) (find_where_fails p xs (All-tail (λ y. p y ≡ false) x xs all))

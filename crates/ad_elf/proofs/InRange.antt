@@ -1,5 +1,5 @@
 -- An object that was read is in range.
-use Rattle.std.proofs.Common.{◌≡◌, ◌≢◌, inl, inr, ℕ, zero, suc, ◌+◌, ◌*◌, ◌^◌, ◌<◌, ◌≤◌, ◌==◌, ◌&&◌, ◌||◌, not, nat_lt, nat_le, true, false, List, [], ◌∷◌, get_or, length, take, drop, None, Result, Ok, Err, IfOk, OnOk, refl, subst, sym, ap, ◌∙◌, arith, sum_by}
+use Rattle.std.proofs.Common.{◌≡◌, ◌≢◌, inl, inr, ℕ, zero, suc, ◌+◌, ◌*◌, ◌^◌, ◌<◌, ◌≤◌, ◌==◌, ◌&&◌, ◌||◌, not, nat_lt, nat_le, true, false, List, [], ◌∷◌, get_or, length, take, drop, refl, subst, sym, ap, ◌∙◌, arith, sum_by}
 use Rattle.std.specs.List.{All, AllPairs, Any, Contains}
 use Rattle.std.proofs.lemmas.Bool.{and_from, and_parts, cases_Bool, cases_eq, cond-false, cond-true, eqb-true, eqb-false, eq-eqb, leb-false, ltb-false, ne_eqb, not_from_false, or_cases, or_parts}
 use Rattle.std.proofs.lemmas.List.{append-nil, get_or_append_left, get_or_push, length-append, length-take, length-drop}
@@ -12,16 +12,14 @@ use Rattle.ad_elf.specs.declared.file.SymbolEntry.{SymbolEntry}
 use Rattle.ad_elf.specs.declared.object.Object.{Object}
 use Rattle.ad_elf.specs.declared.object.Rela.{Rela}
 use Rattle.ad_elf.specs.declared.object.Section.{Section}
-use Rattle.ad_elf.specs.declared.refusal.ElfRefusal.{ElfRefusal}
 use Rattle.ad_elf.specs.Below.{each, joined, total}
 use Rattle.ad_elf.specs.Fields.{header, section_count, symbol_entry}
-use Rattle.ad_elf.specs.File.{Says, content, has_kept_relas, is_frame, is_kept, is_part, is_stored, kept_section, rela, relas, section, sections, symbol, symbol_count, table}
+use Rattle.ad_elf.specs.File.{content, has_kept_relas, is_frame, is_kept, is_part, is_stored, kept_section, rela, relas, section, sections, symbol, symbol_count, table}
 use Rattle.ad_elf.specs.Range.{IsInRange, IsRelaInRange, IsSectionInRange, IsSymbolInRange}
-use Rattle.ad_elf.specs.Refusals.{IsObject, first_row, header_rows, rela_rows, section_rows, symbol_rows, ends_outside, is_astray, is_misdirected, is_out_of_bounds, is_too_long, leaves_section, names_no_symbol, stored_before, stored_size}
+use Rattle.ad_elf.specs.Refusals.{IsObject, ends_outside, is_astray, is_misdirected, is_out_of_bounds, is_too_long, leaves_section, names_no_symbol, stored_before, stored_size}
 use Rattle.ad_elf.specs.Relocation.{width}
 use Rattle.ad_elf.proofs.Below.{fails_where_none}
 use Rattle.ad_elf.proofs.Found.{find_none}
-use Rattle.ad_elf.proofs.Rows.{first_row-rows}
 use Rattle.ad_elf.proofs.Sound.{IsSound, IsSound-from}
 use Rattle.ad_elf.proofs.Tables.{AreDirected-from, AreInFile_from, few_zeros, has_kept_relas-typ, info_below, section_count-below, stored_part, together_inside}
 use Rattle.ad_elf.proofs.Targets.{All-joined, All-one, All-relas, rela-target}
@@ -137,7 +135,7 @@ sizes file sound short =
     omega (arith, sizes_fit file sound (section_count file) (omega arith), stored_fits file sound (section_count file) (omega arith), section_count-below file sound.table)
 
 -- how many symbols there are, and which one stands where
-length-each : {X : Type 0} (f : ℕ → X) (n : ℕ) → length (each f n) ≡ n
+pub length-each : {X : Type 0} (f : ℕ → X) (n : ℕ) → length (each f n) ≡ n
 unfolding joined
 length-each f zero = refl
 length-each f (suc n) = rw (length-append (each f n) (f n ∷ [])) (omega (arith, length-each f n))
@@ -249,13 +247,3 @@ IsInRange-from file o short h =
           rw (s, y, get_or-each (symbol file) (symbol_count file) k d lower) (symbol_in_range file sound k from lower);
       relas_in = subst (λ (rs : List Rela). All (IsRelaInRange o) rs) (sym r) (All-weaker (NamesPlace file) (IsRelaInRange o) (λ x fits. record { symbol = rw count fits.0; target = rw s fits.1 }) (relas file) (relas_in_range file sound));
     }
-
--- what was read is an object, and in range
-pub IfOk-is_object : (file : List ℕ) (r : Result Object ElfRefusal) → first_row (header_rows file) ≡ None → first_row (section_rows file) ≡ None → first_row (symbol_rows file) ≡ None
-    → OnOk r (first_row (rela_rows file) ≡ None) → IfOk r (λ o. Says file o) → IfOk r (λ o. IsObject file o)
-IfOk-is_object file (Ok o) header section symbol none says = record { no_row = first_row-rows file header section symbol ∙ none; says = says }
-IfOk-is_object file (Err e) header section symbol none says = tt
-
-pub IfOk-in_range : (file : List ℕ) (r : Result Object ElfRefusal) → length file < 2 ^ 64 → IfOk r (λ o. IsObject file o) → IfOk r (λ o. IsInRange o)
-IfOk-in_range file (Ok o) short h = IsInRange-from file o short h
-IfOk-in_range file (Err e) short h = tt

@@ -8,3 +8,4 @@ pub mod Sound
 pub mod InRange
 pub mod OneAnswer
 pub mod Computed
+pub mod Encoded

@@ -1,8 +1,13 @@
 -- The first row of the table, part by part.
-use Rattle.std.proofs.Common.{◌≡◌, ◌⊎◌, inl, inr, IfErr, Result, Ok, Err, ℕ, List, [], ◌∷◌, ◌++◌, Option, Some, None, refl, ◌∙◌}
+use Rattle.std.proofs.Common.{◌≡◌, ◌⊎◌, inl, inr, IfErr, Result, Ok, Err, ℕ, List, [], ◌∷◌, ◌++◌, Option, Some, None, is_none, is_some, ◌||◌, not, true, false, refl, subst, sym, ap, ◌∙◌}
 use Rattle.ad_elf.specs.declared.refusal.ElfRefusal.{ElfRefusal}
-use Rattle.ad_elf.specs.declared.refusal.ElfRefusal.TheVariants.{OutOfMemory}
-use Rattle.ad_elf.specs.Refusals.{IsRefused, first_row, header_rows, rela_rows, rows, section_rows, symbol_rows}
+use Rattle.ad_elf.specs.declared.refusal.ElfRefusal.TheVariants.{OutOfMemory, RelaTarget, SymbolSection, SymbolTable}
+use Rattle.std.specs.Result.{IsErrAnd}
+use Rattle.std.proofs.lemmas.Bool.{or_from, or_right}
+use Rattle.ad_elf.specs.Below.{first}
+use Rattle.ad_elf.specs.Fields.{header, section_count}
+use Rattle.ad_elf.specs.File.{one_table, symbol_count, table}
+use Rattle.ad_elf.specs.Refusals.{IsRefused, first_row, has_form, header_rows, is_astray, is_misdirected, lacks_symbols, rela_rows, rows, section_rows, symbol_rows, unnamed_symbol}
 
 front_some : (a b : List (Option ElfRefusal)) (r : ElfRefusal) → first_row a ≡ Some r → first_row (a ++ b) ≡ Some r
 front_some [] b r e = cc
@@ -50,3 +55,31 @@ pub IsRefused-behind : {T : Type 0} (file : List ℕ) (r : Result T ElfRefusal) 
 IsRefused-behind file (Ok o) header section symbol h = h
 IsRefused-behind file (Err e) header section symbol (inl h) = inl h
 IsRefused-behind file (Err e) header section symbol (inr h) = inr (IsRefused-rela file e header section symbol h)
+
+-- the rows on symbols and on sections of relocations, one after another
+pub symbol_rows-form : (file : List ℕ) → (is_none (one_table file) || not (has_form file (table file))) ≡ true → first_row (symbol_rows file) ≡ Some SymbolTable
+unfolding lacks_symbols
+symbol_rows-form file e = rw e refl
+
+pub symbol_rows-name : (file : List ℕ) → is_some (unnamed_symbol file) ≡ true → first_row (symbol_rows file) ≡ Some SymbolTable
+unfolding lacks_symbols
+symbol_rows-name file e = rw (or_right (is_none (one_table file) || not (has_form file (table file))) (is_some (unnamed_symbol file)) e) refl
+
+pub HasSymbols-from : (file : List ℕ) → (is_none (one_table file) || not (has_form file (table file))) ≡ false → unnamed_symbol file ≡ None → lacks_symbols file ≡ false
+unfolding lacks_symbols
+HasSymbols-from file form named = or_from _ _ form (ap is_some named)
+
+pub symbol_rows-place : (file : List ℕ) (j : ℕ) → lacks_symbols file ≡ false → first (is_astray file) (symbol_count file) ≡ Some j → first_row (symbol_rows file) ≡ Some (SymbolSection j)
+symbol_rows-place file j fine e = rw (fine, e) refl
+
+pub symbol_rows-target : (file : List ℕ) (i : ℕ) → lacks_symbols file ≡ false → first (is_astray file) (symbol_count file) ≡ None → first (λ k. is_misdirected file (header file k)) (section_count file) ≡ Some i
+    → first_row (symbol_rows file) ≡ Some (RelaTarget i)
+symbol_rows-target file i fine placed e = rw (fine, placed, e) refl
+
+pub symbol_rows-none : (file : List ℕ) → lacks_symbols file ≡ false → first (is_astray file) (symbol_count file) ≡ None → first (λ k. is_misdirected file (header file k)) (section_count file) ≡ None → first_row (symbol_rows file) ≡ None
+symbol_rows-none file fine placed e = rw (fine, placed, e) refl
+
+-- an error that is handed on
+pub IfErr-same : {T : Type 0} (r : Result T ElfRefusal) (e : ElfRefusal) (Q : ElfRefusal → Type 0) → IsErrAnd r (λ x. x ≡ e) → Q e → IfErr r Q
+IfErr-same (Ok t) e Q h q = cc
+IfErr-same (Err x) e Q h q = subst Q (sym h) q

@@ -1,13 +1,13 @@
 -- What is known of a file for which rows don't hold.
-use Rattle.std.proofs.Common.{◌≡◌, ◌%◌, inl, inr, Option, Some, None, is_some, ℕ, ◌+◌, ◌*◌, ◌<◌, ◌≤◌, Bool, true, false, not, ◌==◌, ◌&&◌, ◌||◌, nat_lt, nat_le, List, length, refl, ap, ap₂, ◌∙◌, sym, arith}
+use Rattle.std.proofs.Common.{◌≡◌, ◌%◌, inl, inr, Some, None, is_none, ℕ, ◌+◌, ◌*◌, ◌<◌, ◌≤◌, Bool, true, false, not, ◌==◌, ◌&&◌, ◌||◌, nat_lt, nat_le, List, length, refl, sym, arith}
 use Rattle.std.proofs.lemmas.Bool.{eq-eqb, leb-false, and_parts, cases_Bool, cond-false, cond-true, eqb-true, ltb-false, ltb-true, not-false, or_parts}
 use Rattle.ad_elf.specs.declared.elf.TheConstants.{FILE_HEADER_BYTES, SECTION_HEADER_BYTES, SHN_LORESERVE, RELA_BYTES, SHT_NOBITS, SHT_NULL, SHT_RELA, SHT_STRTAB, SHT_SYMTAB, ZERO_BYTES}
 use Rattle.ad_elf.specs.declared.table.SymbolTable.{SymbolTable}
 use Rattle.ad_elf.specs.Private.Checked.{AreDirected, AreInFile, HasNames, HasTable, IsTable}
 use Rattle.ad_elf.specs.Fields.{header, names_number, section_count, table_at}
-use Rattle.ad_elf.specs.Refusals.{are_strings, first_unnamed, has_form, is_misdirected, lacks_symbols, is_out_of_bounds, is_too_long, lacks_table, stored_before, stored_size}
+use Rattle.ad_elf.specs.Refusals.{are_strings, has_form, is_misdirected, is_out_of_bounds, is_too_long, lacks_table, stored_before, stored_size}
 use Rattle.ad_elf.specs.Below.{first}
-use Rattle.ad_elf.specs.File.{content, has_kept_relas, is_kept, is_stored, one_table, table_number}
+use Rattle.ad_elf.specs.File.{content, has_kept_relas, is_kept, is_stored, one_table, table, table_number}
 use Rattle.ad_elf.specs.declared.file.SectionHeader.{SectionHeader}
 use Rattle.ad_elf.proofs.Below.{fails_where_none}
 
@@ -94,18 +94,8 @@ pub table_is : (file : List ℕ) (n : ℕ) → one_table file ≡ Some n → tab
 unfolding table_number
 table_is file n e = rw e refl
 
-pub lacks_form : (file : List ℕ) (n : ℕ) → one_table file ≡ Some n → has_form file (header file n) ≡ false → true ≡ lacks_symbols file
-unfolding lacks_symbols
-lacks_form file n e form = rw (table_is file n e, e, form) refl
-
-pub lacks_name : (file : List ℕ) (n : ℕ) (h : SectionHeader) (names : List ℕ) (o : Option ℕ) → one_table file ≡ Some n → h ≡ header file n → has_form file h ≡ true
-    → names ≡ content file (header file h.link) → o ≡ first_unnamed file names h → is_some o ≡ lacks_symbols file
-unfolding lacks_symbols
-lacks_name file n h names o e same form named found =
-    let form' = ap (has_form file) (sym same) ∙ form in
-    let names' = named ∙ ap (λ (g : SectionHeader). content file (header file g.link)) same in
-    let found' = found ∙ ap₂ (λ (ns : List ℕ) (g : SectionHeader). first_unnamed file ns g) names' same in
-    rw (found', table_is file n e, e, form') refl
+pub form_value : (file : List ℕ) (n : ℕ) (b : Bool) → one_table file ≡ Some n → has_form file (header file n) ≡ b → (is_none (one_table file) || not (has_form file (table file))) ≡ not b
+form_value file n b e form = rw (table_is file n e, e, form) refl
 
 -- a section whose relocations are kept is one of relocations
 pub has_kept_relas-typ : (file : List ℕ) (h : SectionHeader) → has_kept_relas file h ≡ true → h.typ ≡ SHT_RELA

@@ -1,8 +1,8 @@
 -- What holds of all relocations of a file.
-use Rattle.std.proofs.Common.{◌≡◌, inl, inr, ℕ, zero, suc, ◌<◌, ◌/◌, true, List, [], ◌∷◌, refl, arith}
+use Rattle.std.proofs.Common.{◌≡◌, inl, inr, ℕ, zero, suc, ◌<◌, ◌/◌, true, List, [], ◌∷◌, ◌++◌, refl, arith}
 use Rattle.std.specs.List.{All}
-use Rattle.std.proofs.lemmas.Bool.{cases_Bool, cond-false, cond-true}
-use Rattle.std.proofs.lemmas.List.Elements.{All-append, All-nil}
+use Rattle.std.proofs.lemmas.Bool.{cases_Bool, cases_lt, cond-false, cond-true}
+use Rattle.std.proofs.lemmas.List.Elements.{All-append, All-cons, All-head, All-nil, All-tail}
 use Rattle.ad_elf.specs.declared.elf.TheConstants.{RELA_BYTES}
 use Rattle.ad_elf.specs.declared.object.Rela.{Rela}
 use Rattle.ad_elf.specs.Below.{each, joined}
@@ -23,6 +23,26 @@ All-joined P f (suc n) h = All-append P (joined f n) (f n) (All-joined P f n (λ
 
 pub All-each : {X : Type 0} (P : X → Type 0) (f : ℕ → X) (n : ℕ) → ((i : ℕ) → i < n → P (f i)) → All P (each f n)
 All-each P f n h = All-joined P (λ i. f i ∷ []) n (λ i below. All-one P (f i) (h i below))
+
+-- and back
+All-parts : {X : Type 0} (P : X → Type 0) (xs ys : List X) → All P (xs ++ ys) → All P xs × All P ys
+All-parts P [] ys all = (All-nil P, all)
+All-parts P (x ∷ xs) ys all =
+    let rest = All-parts P xs ys (All-tail P x (xs ++ ys) all) in
+    (All-cons P x xs (All-head P x (xs ++ ys) all) rest.0, rest.1)
+
+pub All-from_joined : {X : Type 0} (P : X → Type 0) (f : ℕ → List X) (n : ℕ) → All P (joined f n) → (i : ℕ) → i < n → All P (f i)
+unfolding joined
+All-from_joined P f zero all i below = absurd (omega arith)
+All-from_joined P f (suc n) all i below =
+    let parts = All-parts P (joined f n) (f n) all in
+    elim (cases_lt i n) [
+      | inl less ↦ All-from_joined P f n parts.0 i less
+      | inr last ↦ (let same : i ≡ n = omega arith in rw same parts.1)
+    ]
+
+pub All-from_each : {X : Type 0} (P : X → Type 0) (f : ℕ → X) (n : ℕ) → All P (each f n) → (i : ℕ) → i < n → P (f i)
+All-from_each P f n all i below = All-head P (f i) [] (All-from_joined P (λ j. f j ∷ []) n all i below)
 
 pub rela-target : (file : List ℕ) (i j : ℕ) → (rela file i j).target ≡ (header file i).info
 unfolding rela

@@ -62,6 +62,10 @@ is_of_wrong_type h =
     (h.typ == SHT_REL)
     || (has_flag h.flags SHF_ALLOC && (not ((h.typ == SHT_PROGBITS) || (h.typ == SHT_NOBITS) || (h.typ == SHT_NOTE)) || has_flag h.flags SHF_TLS || has_flag h.flags SHF_COMPRESSED))
 
+-- The name of section i doesn't end among the names of the sections, or is too long.
+abbrev pub is_unnamed : List ℕ → ℕ → Bool
+is_unnamed file i = not (has_string (section_names file) (header file i).name)
+
 -- The entries of a table of symbols have their size, there is a whole number of them, and their names are in a section
 -- of strings.
 abbrev pub has_form : List ℕ → SectionHeader → Bool
@@ -71,9 +75,13 @@ has_form file h = (h.entry_size == SYMBOL_BYTES) && (h.size % SYMBOL_BYTES == 0)
 abbrev pub first_unnamed : List ℕ → List ℕ → SectionHeader → Option ℕ
 first_unnamed file names h = first (λ j. not (has_string names (symbol_entry file h j).name)) (h.size / SYMBOL_BYTES)
 
+-- the first symbol of the file's table whose name is none
+abbrev pub unnamed_symbol : List ℕ → Option ℕ
+unnamed_symbol file = first_unnamed file (symbol_names file) (table file)
+
 -- There isn't one table of symbols, or it doesn't have its form, or one of its symbols has no name.
 unfoldable pub lacks_symbols : List ℕ → Bool
-lacks_symbols file = is_none (one_table file) || not (has_form file (table file)) || is_some (first_unnamed file (symbol_names file) (table file))
+lacks_symbols file = is_none (one_table file) || not (has_form file (table file)) || is_some (unnamed_symbol file)
 
 -- The symbol names a section that isn't there, or a place past the end of its section.
 unfoldable pub leaves_section : List ℕ → SymbolEntry → Bool
@@ -131,7 +139,7 @@ abbrev pub section_rows : List ℕ → List (Option ElfRefusal)
 section_rows file =
     row_at (first (is_out_of_bounds file) (section_count file)) SectionBounds
     ∷ row_at (first (λ i. is_of_wrong_type (header file i)) (section_count file)) SectionType
-    ∷ row_at (first (λ i. not (has_string (section_names file) (header file i).name)) (section_count file)) StringIndex
+    ∷ row_at (first (is_unnamed file) (section_count file)) StringIndex
     ∷ []
 
 -- The rows on the table of symbols, on symbols and on sections of relocations.

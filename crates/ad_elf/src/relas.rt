@@ -1,9 +1,9 @@
 //! The sections of relocations, the rows on them and on relocations, and what an object says of them.
 
-ghost use Rattle.std.specs.Prelude.{◌≡◌, ◌+◌, ◌*◌, ◌<◌, ◌≤◌, ◌++◌, ◌==◌, ◌&&◌, false, length, nat_le, find, All, IfOk, OnOk};
+ghost use Rattle.std.specs.Prelude.{◌≡◌, ◌⊎◌, ◌+◌, ◌*◌, ◌<◌, ◌≤◌, ◌++◌, ◌==◌, ◌&&◌, false, length, nat_le, find, All, IfErr, IfOk, None, OnOk, Some};
 ghost use Rattle.ad_elf.specs.Below.{first};
 ghost use Rattle.ad_elf.specs.Private.Checked.{AreDirected, AreInFile, HasTable};
-ghost use Rattle.ad_elf.specs.declared.refusal.ElfRefusal.TheVariants.{RelaOffset, RelaSymbol};
+ghost use Rattle.ad_elf.specs.declared.refusal.ElfRefusal.TheVariants.{OutOfMemory as MemoryWanted, RelaOffset, RelaSymbol};
 ghost use Rattle.ad_elf.specs.Fields.{header, section_count};
 ghost use Rattle.ad_elf.specs.File.{has_kept_relas, is_part, kept_relas, rela, relas as all_relas, relas_of, section_names, symbol_count, table_number};
 ghost use Rattle.ad_elf.specs.Refusals.{ends_outside, first_row, is_misdirected, rela_rows, row_on};
@@ -17,6 +17,29 @@ use crate::relocation::width;
 use crate::sections::is_part;
 use ad_base::OutOfMemory;
 use std::alloc::Global;
+
+/// What an object says of the relocations, or the first row on them, in a file of so many symbols.
+pub(crate) fn read_relas(
+    alloc: Global,
+    file: &[u8],
+    names: &[u8],
+    count: u64,
+) -> Result<Vec<Rela>, ElfRefusal>
+    requires table { HasTable file.now }
+    requires inside { AreInFile file.now }
+    requires names { names.now ≡ section_names file.now }
+    requires directed { AreDirected file.now }
+    requires symbols { count ≡ symbol_count file.now }
+    ensures relas { IfOk result (λ v. v.items ≡ all_relas file.now) }
+    ensures fine { OnOk result (first_row (rela_rows file.now) ≡ None) }
+    ensures refused { IfErr result (λ r. (r ≡ MemoryWanted) ⊎ (first_row (rela_rows file.now) ≡ Some r)) }
+{
+    let relas = relas(alloc, file, names)?;
+    match rela_refusal(file, count, relas.as_slice()) {
+        Some(refusal) => Err(refusal),
+        None => Ok(relas),
+    }
+}
 
 /// The first section of relocations that has a wrong form, or applies to no section that is taken.
 #[tactic(auto, using(crate::proofs::Below::loop_steps))]
@@ -61,7 +84,7 @@ fn applies_to_zeros(names: &[u8], target: SectionHeader) -> bool
 
 /// What an object says of the relocations of the sections that are kept.
 #[tactic(auto, using(crate::proofs::Below::loop_steps))]
-pub(crate) fn relas(alloc: Global, file: &[u8], names: &[u8]) -> Result<Vec<Rela>, OutOfMemory>
+fn relas(alloc: Global, file: &[u8], names: &[u8]) -> Result<Vec<Rela>, OutOfMemory>
     requires table { HasTable file.now }
     requires names { names.now ≡ section_names file.now }
     requires inside { AreInFile file.now }
@@ -142,7 +165,7 @@ fn rela(file: &[u8], i: u64, section: SectionHeader, j: u64) -> Rela
 }
 
 /// The first row on relocations, of which each applies to a section that is there.
-pub(crate) fn rela_refusal(file: &[u8], count: u64, relas: &[Rela]) -> Option<ElfRefusal>
+fn rela_refusal(file: &[u8], count: u64, relas: &[Rela]) -> Option<ElfRefusal>
     requires table { HasTable file.now }
     requires symbols { count ≡ symbol_count file.now }
     requires all { relas.now ≡ all_relas file.now }

@@ -1,6 +1,6 @@
 //! Strings, each ended by a zero byte (gABI, "String Table").
 
-ghost use Rattle.std.specs.Prelude.{◌≡◌, take, drop};
+ghost use Rattle.std.specs.Prelude.{◌≡◌, IfSome, drop, is_some, take};
 ghost use Rattle.ad_elf.specs.File.{has_string, string_at};
 
 use crate::elf::NAME_BYTES;
@@ -16,16 +16,6 @@ pub(crate) fn strings_from(strings: &[u8], at: u32) -> &[u8]
     }
 }
 
-/// Tests whether the string that begins at a place ends, and has at most so many bytes as a name may
-/// have.
-#[tactic(auto, unfolding(crate::specs::File::has_string))]
-pub(crate) fn has_string(strings: &[u8], at: u32) -> bool
-    ensures { result ≡ has_string strings.now at }
-{
-    let from = strings_from(strings, at);
-    first_bytes(from, NAME_BYTES as usize + 1).contains(&0)
-}
-
 /// So many bytes at the front, or all, where there are fewer.
 fn first_bytes(bytes: &[u8], most: usize) -> &[u8]
     ensures { result.now ≡ take most bytes.now }
@@ -37,15 +27,15 @@ fn first_bytes(bytes: &[u8], most: usize) -> &[u8]
     }
 }
 
-/// The string that begins at a place: the bytes before the next zero byte.
-#[tactic(auto, unfolding(crate::specs::File::string_at))]
-pub(crate) fn string_at(strings: &[u8], at: u32) -> &[u8]
-    ensures { result.now ≡ string_at strings.now at }
+/// The string that begins at a place, the bytes before the next zero byte; or `None` where it doesn't end,
+/// or has more bytes than a name may have.
+pub(crate) fn string_at(strings: &[u8], at: u32) -> Option<&[u8]>
+    ensures there { is_some result ≡ has_string strings.now at }
+    ensures string { IfSome result (λ s. s.now ≡ string_at strings.now at) }
 {
     let from = strings_from(strings, at);
-    let end = from
+    let end = first_bytes(from, NAME_BYTES as usize + 1)
         .iter()
-        .position(|byte| *byte == 0)
-        .unwrap_or(from.len());
-    &from[..end]
+        .position(|byte| *byte == 0)?;
+    Some(&from[..end])
 }

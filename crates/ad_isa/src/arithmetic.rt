@@ -8,6 +8,7 @@ ghost use Rattle.ad_isa.specs.Words.{has_word_form, IsSize};
 use crate::instr::{Alu, Test};
 
 /// What an operation gives of two numbers of 64 bits.
+#[inline(always)]
 pub fn operation(op: Alu, a: u64, b: u64) -> u64
     ensures value { result ≡ operation_on op a b }
 {
@@ -34,6 +35,7 @@ pub fn operation(op: Alu, a: u64, b: u64) -> u64
 }
 
 /// A number of so many bytes as one of 64 bits, with its sign or without.
+#[inline(always)]
 pub fn widen(size: u8, signed: bool, number: u64) -> u64
     requires size { IsSize size }
     requires fits { number < 256 ^ size }
@@ -48,6 +50,7 @@ pub fn widen(size: u8, signed: bool, number: u64) -> u64
 }
 
 /// What an operation gives of the low 32 bits of two numbers, with the sign of its result.
+#[inline(always)]
 pub fn word_operation(op: Alu, a: u64, b: u64) -> u64
     requires { has_word_form op ≡ true }
     ensures value { result ≡ word_operation_on op a b }
@@ -68,6 +71,7 @@ pub fn word_operation(op: Alu, a: u64, b: u64) -> u64
 }
 
 /// Whether a comparison holds of two numbers.
+#[inline(always)]
 pub fn holds(test: Test, a: u64, b: u64) -> bool
     ensures value { result ≡ test_of test a b }
 {

@@ -40,6 +40,7 @@ const SYSTEM: u32 = 0x73;
 
 /// The instruction of a word, or `None` where the table has none.
 #[tactic(auto, unfolding(crate::specs::Table::decoded, crate::specs::Table::rows))]
+#[inline(always)]
 pub fn decode(word: u32) -> Option<Instr>
     ensures value { result ≡ decoded word }
     ensures has_word { IfSome result HasWord }
@@ -72,6 +73,7 @@ pub fn decode(word: u32) -> Option<Instr>
 }
 
 #[tactic(auto, unfolding(crate::specs::Table::decoded, crate::specs::Table::rows))]
+#[inline(always)]
 fn jump(word: u32) -> Option<Instr>
     requires { opcode word ≡ 0x67 }
     ensures value { result ≡ decoded word }
@@ -88,6 +90,7 @@ fn jump(word: u32) -> Option<Instr>
 }
 
 #[tactic(auto, unfolding(crate::specs::Table::decoded, crate::specs::Table::rows))]
+#[inline(always)]
 fn branch(word: u32) -> Option<Instr>
     requires { opcode word ≡ 0x63 }
     ensures value { result ≡ decoded word }
@@ -111,6 +114,7 @@ fn branch(word: u32) -> Option<Instr>
 }
 
 #[tactic(auto, unfolding(crate::specs::Table::decoded, crate::specs::Table::rows))]
+#[inline(always)]
 fn load(word: u32) -> Option<Instr>
     requires { opcode word ≡ 0x03 }
     ensures value { result ≡ decoded word }
@@ -136,6 +140,7 @@ fn load(word: u32) -> Option<Instr>
 }
 
 #[tactic(auto, unfolding(crate::specs::Table::decoded, crate::specs::Table::rows))]
+#[inline(always)]
 fn store(word: u32) -> Option<Instr>
     requires { opcode word ≡ 0x23 }
     ensures value { result ≡ decoded word }
@@ -157,6 +162,7 @@ fn store(word: u32) -> Option<Instr>
 }
 
 #[tactic(auto, unfolding(crate::specs::Table::decoded, crate::specs::Table::rows))]
+#[inline(always)]
 fn immediate(word: u32) -> Option<Instr>
     requires { opcode word ≡ 0x13 }
     ensures value { result ≡ decoded word }
@@ -183,6 +189,7 @@ fn immediate(word: u32) -> Option<Instr>
 }
 
 #[tactic(auto, unfolding(crate::specs::Table::decoded, crate::specs::Table::rows))]
+#[inline(always)]
 fn immediate_32(word: u32) -> Option<Instr>
     requires { opcode word ≡ 0x1b }
     ensures value { result ≡ decoded word }
@@ -204,6 +211,7 @@ fn immediate_32(word: u32) -> Option<Instr>
 }
 
 #[tactic(auto, unfolding(crate::specs::Table::decoded, crate::specs::Table::rows))]
+#[inline(always)]
 fn registers(word: u32) -> Option<Instr>
     requires { opcode word ≡ 0x33 }
     ensures value { result ≡ decoded word }
@@ -239,6 +247,7 @@ fn registers(word: u32) -> Option<Instr>
 }
 
 #[tactic(auto, unfolding(crate::specs::Table::decoded, crate::specs::Table::rows))]
+#[inline(always)]
 fn registers_32(word: u32) -> Option<Instr>
     requires { opcode word ≡ 0x3b }
     ensures value { result ≡ decoded word }
@@ -266,6 +275,7 @@ fn registers_32(word: u32) -> Option<Instr>
 }
 
 #[tactic(auto, unfolding(crate::specs::Table::decoded, crate::specs::Table::rows))]
+#[inline(always)]
 fn fence(word: u32) -> Option<Instr>
     requires { opcode word ≡ 0x0f }
     ensures value { result ≡ decoded word }
@@ -279,6 +289,7 @@ fn fence(word: u32) -> Option<Instr>
 }
 
 #[tactic(auto, unfolding(crate::specs::Table::decoded, crate::specs::Table::rows))]
+#[inline(always)]
 fn system(word: u32) -> Option<Instr>
     requires { opcode word ≡ 0x73 }
     ensures value { result ≡ decoded word }

@@ -3,3 +3,15 @@ pub mod Names
 pub mod Bytes
 pub mod Numbers
 pub mod WorkedFile
+pub mod Pieces
+pub mod Spelled
+pub mod Counted
+pub mod Located
+pub mod Headed
+pub mod Said
+pub mod Tabled
+pub mod Related
+pub mod Rowed
+pub mod Readable
+pub mod Taken
+pub mod Tested

@@ -13,7 +13,7 @@ use Rattle.ad_kit.specs.Private.Written.{AreFound, by_bytes}
 use Rattle.ad_kit.specs.declared.strings.Found.{Found}
 
 -- the bytes of names, each with a zero byte behind it
-abbrev ended : List (List ℕ) → List ℕ
+abbrev pub ended : List (List ℕ) → List ℕ
 ended ns = flat_map (λ (n : List ℕ). n ++ 0 ∷ []) ns
 
 or_none : (o : Option ℕ) → option_or o None ≡ o
@@ -21,7 +21,7 @@ or_none None = refl
 or_none (Some x) = refl
 
 -- one name more
-find_place-push : (at : ℕ) (ns : List (List ℕ)) (name q : List ℕ) → find_place at (ns ++ name ∷ []) q ≡ option_or (find_place at ns q) (cond (bytes_eq name q) (Some (at + length (ended ns))) None)
+pub find_place-push : (at : ℕ) (ns : List (List ℕ)) (name q : List ℕ) → find_place at (ns ++ name ∷ []) q ≡ option_or (find_place at ns q) (cond (bytes_eq name q) (Some (at + length (ended ns))) None)
 unfolding find_place
 find_place-push at [] name q =
     let end : at ≡ at + length (ended []) = omega arith in
@@ -39,11 +39,11 @@ strings-push : (ns : List (List ℕ)) (name : List ℕ) → strings (ns ++ name 
 unfolding strings
 strings-push ns name = sym (flat_map_more (λ (n : List ℕ). n ++ 0 ∷ []) (0 ∷ []) ns name) ∙ sym (append_assoc (0 ∷ ended ns) name (0 ∷ []))
 
-length-strings : (ns : List (List ℕ)) → length (strings ns) ≡ 1 + length (ended ns)
+pub length-strings : (ns : List (List ℕ)) → length (strings ns) ≡ 1 + length (ended ns)
 unfolding strings
 length-strings ns = omega arith
 
-same_bytes : (xs ys : List ℕ) → bytes_eq xs ys ≡ true → xs ≡ ys
+pub same_bytes : (xs ys : List ℕ) → bytes_eq xs ys ≡ true → xs ≡ ys
 same_bytes xs ys e = (bytes_eq-Decides xs ys).0 e
 
 is_none : (o : Option ℕ) → is_some o ≡ false → o ≡ None

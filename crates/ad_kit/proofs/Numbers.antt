@@ -52,10 +52,10 @@ headers_all ss k old whole all e =
     sym (append-nil old) ∙ ap (λ (x : List Header). old ++ x) (sym rest) ∙ e
 
 -- the name of a section, and that of its relocations
-name_below : (ss : List KitSection) (k j : ℕ) (d : KitSection) → k < length ss → j < length (names_of (get_or ss k d)) → length (flat_map names_of (take k ss)) + j < length (flat_map names_of ss)
+pub name_below : (ss : List KitSection) (k j : ℕ) (d : KitSection) → k < length ss → j < length (names_of (get_or ss k d)) → length (flat_map names_of (take k ss)) + j < length (flat_map names_of ss)
 name_below ss k j d below inside = omega (arith, inside, length-flat_map-take names_of ss k d below)
 
-name_at : (ss : List KitSection) (k j : ℕ) (d : KitSection) (n : List ℕ) → k < length ss → j < length (names_of (get_or ss k d)) → get_or (header_names ss) (length (flat_map names_of (take k ss)) + j) n ≡ get_or (names_of (get_or ss k d)) j n
+pub name_at : (ss : List KitSection) (k j : ℕ) (d : KitSection) (n : List ℕ) → k < length ss → j < length (names_of (get_or ss k d)) → get_or (header_names ss) (length (flat_map names_of (take k ss)) + j) n ≡ get_or (names_of (get_or ss k d)) j n
 name_at ss k j d n below inside =
     get_or_append_left (flat_map names_of ss) last_names n (length (flat_map names_of (take k ss)) + j) (name_below ss k j d below inside)
     ∙ get_or-flat_map names_of ss k j d n below inside
@@ -66,19 +66,19 @@ place_at ns names places i n are below = ap (λ (xs : List ℕ). get_or xs i 0) 
 pub names_before_last : (ss : List KitSection) → length (header_names ss) ≡ number ss + 2
 names_before_last ss = omega (arith, length-append (flat_map names_of ss) last_names)
 
-some_name : (s : KitSection) → 0 < length (names_of s)
+pub some_name : (s : KitSection) → 0 < length (names_of s)
 unfolding names_of
 some_name s = omega arith
 
-two_names : (s : KitSection) → has_relas s ≡ true → 1 < length (names_of s)
+pub two_names : (s : KitSection) → has_relas s ≡ true → 1 < length (names_of s)
 unfolding names_of
 two_names s some = rw some (omega arith)
 
-first_name : (s : KitSection) (n : List ℕ) → get_or (names_of s) 0 n ≡ s.name
+pub first_name : (s : KitSection) (n : List ℕ) → get_or (names_of s) 0 n ≡ s.name
 unfolding names_of
 first_name s n = refl
 
-second_name : (s : KitSection) (n : List ℕ) → has_relas s ≡ true → get_or (names_of s) 1 n ≡ rela_name s
+pub second_name : (s : KitSection) (n : List ℕ) → has_relas s ≡ true → get_or (names_of s) 1 n ≡ rela_name s
 unfolding names_of
 second_name s n some = rw some refl
 
@@ -138,10 +138,6 @@ pub place_of_symbol : (ys : List KitSymbol) (ns : List (List ℕ)) (places : Lis
 place_of_symbol ys ns places k d are below =
     let low : k < length (names ys) = omega (arith, length-map ys (λ (y : KitSymbol). y.name)) in
     place_at ns (names ys) places k [] are low ∙ ap (place ns) (get_or-map (λ (y : KitSymbol). y.name) ys k d [] below)
-
--- a section, where a list of them may be empty
-abbrev pub no_section : KitSection
-no_section = record { name = []; typ = 0; flags = 0; align = 0; bytes = []; size = 0; relas = [] }
 
 pub count_more : (ss : List KitSection) (k : ℕ) (d : KitSection) (old new : List Header) → k < length ss → new ≡ old ++ headers_of ss (take k ss) (get_or ss k d) → length old ≡ number (take k ss) → length new ≡ number (take (k + 1) ss)
 count_more ss k d old new below pushed had =

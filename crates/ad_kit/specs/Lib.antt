@@ -1,4 +1,5 @@
 pub mod ObjectFile
 pub mod Writable
 pub mod Worked
+pub mod ReadBack
 pub mod Private

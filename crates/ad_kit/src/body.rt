@@ -6,6 +6,7 @@ ghost use Rattle.ad_parts.specs.Ends.{next};
 ghost use Rattle.ad_kit.specs.declared.object.KitRela.{KitRela};
 ghost use Rattle.ad_kit.specs.declared.object.KitSection.{KitSection};
 ghost use Rattle.ad_kit.specs.ObjectFile.{begin_behind, end_of, header_names, names as symbols_named, padded, place, rela, sections_bytes, symbol_at, symbol_names, symbols_bytes, to_relas, to_symbols, to_table};
+ghost use Rattle.ad_kit.specs.ReadBack.{IsRelaFit, IsSymbolFit};
 ghost use Rattle.ad_kit.specs.Writable.{IsWritable, powers};
 ghost use Rattle.ad_kit.specs.Private.Written.{AreBegun, ArePlaces, AreRelasBegun, AreStrings};
 
@@ -47,6 +48,8 @@ pub(crate) fn put_body(
     requires strings { AreStrings (symbols_named symbols.now) strings.now }
     ensures bytes { OnOk result (body.new.items ≡ to_table sections.now symbols.now) }
     ensures places { IfOk result (λ p. ArePlaces sections.now symbols.now p) }
+    ensures relas { OnOk result (All (λ (s : KitSection). All IsRelaFit s.relas) sections.now) }
+    ensures symbols { OnOk result (All IsSymbolFit symbols.now) }
 {
     let section_places = put_sections(body, alloc, sections)?;
     pad(body, 8)?;
@@ -131,6 +134,7 @@ pub(crate) fn put_relas(
     requires symbols { All (λ (s : KitSection). All (λ (r : KitRela). r.symbol < 2 ^ 32) s.relas) sections.now }
     ensures bytes { OnOk result (body.new.items ≡ to_symbols sections.now) }
     ensures places { IfOk result (λ v. AreRelasBegun sections.now (length sections.now) v.items) }
+    ensures fit { OnOk result (All (λ (s : KitSection). All IsRelaFit s.relas) sections.now) }
 {
     let mut places = Vec::new(alloc);
     for k in 0..sections.len() {
@@ -143,7 +147,8 @@ pub(crate) fn put_relas(
 /// Appends the relocations of one section.
 fn put_relas_of(body: &mut Vec<u8>, relas: &[KitRela]) -> Result<(), OutOfMemory>
     requires { All (λ (r : KitRela). r.symbol < 2 ^ 32) relas.now }
-    ensures { OnOk result (body.new.items ≡ body.old.items ++ flat_map rela relas.now) }
+    ensures bytes { OnOk result (body.new.items ≡ body.old.items ++ flat_map rela relas.now) }
+    ensures fit { OnOk result (All IsRelaFit relas.now) }
 {
     for k in 0..relas.len() {
         put_rela(body, relas[k])?;
@@ -159,7 +164,8 @@ pub(crate) fn put_symbols(
     symbols: &[KitSymbol],
 ) -> Result<(), OutOfMemory>
     requires { places.now ≡ map (place (symbol_names symbols.now)) (symbols_named symbols.now) }
-    ensures { OnOk result (body.new.items ≡ body.old.items ++ symbols_bytes (symbol_names symbols.now) symbols.now) }
+    ensures bytes { OnOk result (body.new.items ≡ body.old.items ++ symbols_bytes (symbol_names symbols.now) symbols.now) }
+    ensures fit { OnOk result (All IsSymbolFit symbols.now) }
 {
     put_zeros(body, SYMBOL_BYTES as usize)?;
     for k in 0..symbols.len() {
@@ -179,7 +185,8 @@ fn put_zeros(body: &mut Vec<u8>, count: usize) -> Result<(), OutOfMemory>
 
 /// Appends a symbol, whose name begins at a place.
 fn put_symbol(body: &mut Vec<u8>, name: u32, made: &KitSymbol) -> Result<(), OutOfMemory>
-    ensures { OnOk result (body.new.items ≡ body.old.items ++ symbol_at name made.now) }
+    ensures bytes { OnOk result (body.new.items ≡ body.old.items ++ symbol_at name made.now) }
+    ensures fit { OnOk result (IsSymbolFit made.now) }
 {
     put_u32(body, name)?;
     put_u8(body, made.info)?;

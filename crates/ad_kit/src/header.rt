@@ -3,6 +3,8 @@
 ghost use Rattle.std.specs.Prelude.{◌≡◌, ◌+◌, ◌++◌, ◌<◌, ◌^◌, OnOk};
 ghost use Rattle.byteorder.specs.Endian.{little_bytes};
 ghost use Rattle.ad_kit.specs.ObjectFile.{file_header, header, i64, identification, rela};
+ghost use Rattle.ad_kit.specs.ReadBack.{IsRelaFit};
+ghost use Rattle.ad_kit.specs.Private.Written.{IsHeaderFit};
 
 use crate::object::KitRela;
 use ad_base::OutOfMemory;
@@ -96,7 +98,8 @@ fn put_i64(file: &mut Vec<u8>, number: i64) -> Result<(), OutOfMemory>
 /// Appends a relocation.
 pub(crate) fn put_rela(file: &mut Vec<u8>, made: KitRela) -> Result<(), OutOfMemory>
     requires { made.symbol < 2 ^ 32 }
-    ensures { OnOk result (file.new.items ≡ file.old.items ++ rela made) }
+    ensures bytes { OnOk result (file.new.items ≡ file.old.items ++ rela made) }
+    ensures fit { OnOk result (IsRelaFit made) }
 {
     put_u64(file, made.offset)?;
     put_u64(file, made.symbol * (1 << 32) + u64::from(made.typ))?;
@@ -106,7 +109,8 @@ pub(crate) fn put_rela(file: &mut Vec<u8>, made: KitRela) -> Result<(), OutOfMem
 
 /// Appends the header of a section.
 pub(crate) fn put_header(file: &mut Vec<u8>, made: Header) -> Result<(), OutOfMemory>
-    ensures { OnOk result (file.new.items ≡ file.old.items ++ header made) }
+    ensures bytes { OnOk result (file.new.items ≡ file.old.items ++ header made) }
+    ensures fit { OnOk result (IsHeaderFit made) }
 {
     put_u32(file, made.name)?;
     put_u32(file, made.typ)?;

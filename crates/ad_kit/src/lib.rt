@@ -9,11 +9,13 @@ mod laws;
 mod object;
 mod strings;
 mod table;
+mod writable;
 mod write;
 
 pub use encoding::encode;
-pub use laws::law_worked_object;
+pub use laws::{law_round_trip, law_worked_object};
 pub use object::{KitRela, KitSection, KitSymbol};
+pub use writable::is_writable;
 pub use write::write_object;
 
 #[cfg(test)]

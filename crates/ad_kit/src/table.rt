@@ -3,7 +3,7 @@
 ghost use Rattle.std.specs.Prelude.{◌≡◌, ◌+◌, ◌*◌, ◌++◌, ◌∷◌, ◌<◌, ◌≤◌, [], All, IfOk, OnOk, codes, count_by, flat_map, length, map, slice_index_or, take};
 ghost use Rattle.ad_kit.specs.declared.object.KitSection.{KitSection};
 ghost use Rattle.ad_kit.specs.ObjectFile.{begin_behind, end_of, header, header_of, header_names, headers, headers_behind, headers_of, is_local, names as symbols_named, null_header, names_of, number as number_behind, place, rela_header, rela_name, relas_bytes, section_names, sections_bytes, strings_header, symbols_header, to_relas, to_symbols};
-ghost use Rattle.ad_kit.specs.Private.Written.{AreBegun, ArePlaces, AreRelasBegun, AreStrings, IsShort};
+ghost use Rattle.ad_kit.specs.Private.Written.{AreBegun, ArePlaces, AreRelasBegun, AreStrings, IsHeaderFit, IsShort};
 
 use crate::body::Places;
 use crate::header::{Header, put_header};
@@ -254,7 +254,8 @@ fn strings_header(name: u32, at: u64, strings: &Strings) -> Header
 
 /// Appends the headers.
 pub(crate) fn put_headers(file: &mut Vec<u8>, headers: &[Header]) -> Result<(), OutOfMemory>
-    ensures { OnOk result (file.new.items ≡ file.old.items ++ flat_map header headers.now) }
+    ensures bytes { OnOk result (file.new.items ≡ file.old.items ++ flat_map header headers.now) }
+    ensures fit { OnOk result (All IsHeaderFit headers.now) }
 {
     for k in 0..headers.len() {
         put_header(file, headers[k])?;

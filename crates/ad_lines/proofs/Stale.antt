@@ -104,7 +104,7 @@ fault-at-steps : (at : ℕ) (segments : List (Segment ℕ)) → holding segments
 fault-at-steps at segments none high steps first later before after same leads =
     let stay = led steps first later before after leads ∙ ap extents same in
     let nothing = holding-none at after.memory.segments segments stay none in
-    (fault-there at after.memory.segments nothing high, fault-reached at after.memory.segments nothing)
+    (λ aligned. fault-there at after.memory.segments nothing high, fault-reached at after.memory.segments nothing)
 
 module _ (seed workers fuel : ℕ) (images : List Image) (loaded : AreLoaded seed workers images) where
   pub grown-from : (steps : List ReadyStep) → All (λ s. 1 ≤ line_of s) steps → IsGrown (opening_mappings workers images (opening_drawn seed workers images).places) (opening_run workers images (opening_drawn seed workers images)).placement.rows (run_of_seed seed workers images fuel steps)

@@ -5,7 +5,7 @@ use Rattle.std.specs.Option.{option_map_or}
 use Rattle.ad_base.specs.declared.book.Entry.{Entry}
 use Rattle.ad_base.specs.declared.end.End.TheVariants as ends
 use Rattle.ad_base.specs.declared.image.Image.{Image}
-use Rattle.ad_base.specs.declared.layout.TheConstants.{MAPPINGS, PAGE_BYTES, STACK_PAGES}
+use Rattle.ad_base.specs.declared.layout.TheConstants.{FETCH_BYTES, MAPPINGS, PAGE_BYTES, STACK_PAGES}
 use Rattle.ad_base.specs.declared.ledger.Kind.{Kind}
 use Rattle.ad_base.specs.declared.ledger.Kind.TheVariants as kinds
 use Rattle.ad_base.specs.declared.ledger.MoveEnd.{MoveEnd}
@@ -106,8 +106,8 @@ abbrev pub InEachMemory : Image → Place → Place → (List (Segment ℕ) → 
 InEachMemory image under stack P = (bytes fixed writable : List ℕ) → length bytes ≡ STACK_PAGES * PAGE_BYTES → HasData image writable fixed
     → P (segments_of image under stack bytes fixed writable)
 
--- Whatever steps of the plain machine lead on from these segments, each access at the address is a fault then: a fetch,
--- and a load or a store of so many bytes that the address is a multiple of them.
+-- Whatever steps of the plain machine lead on from these segments, each access of so many bytes at the address that it is a
+-- multiple of them is a fault then: a fetch, a load and a store.
 abbrev pub IsFaultAtEachStep : ℕ → List (Segment ℕ) → Type 0
 IsFaultAtEachStep at segments = (steps : ℕ) (first later : State ℕ) (before after : Tracked) → before.memory.segments ≡ segments → LeadsTo steps first before later after
-    → (fetched after.memory.segments at ≡ Fault) × ((wanted : Use) (size : ℕ) → at % size ≡ 0 → reach wanted size after.memory.segments at ≡ Err ends.Fault)
+    → (at % FETCH_BYTES ≡ 0 → fetched after.memory.segments at ≡ Fault) × ((wanted : Use) (size : ℕ) → at % size ≡ 0 → reach wanted size after.memory.segments at ≡ Err ends.Fault)

@@ -1,5 +1,5 @@
 -- The elements of lists, and what a list of acts or deeds tells once one more is added.
-use Rattle.std.proofs.Common.{◌≡◌, ◌≢◌, ◌⊎◌, ⊎_elim, inl, inr, ℕ, ◌≤◌, Bool, true, false, cond, not, eqb, List, [], ◌∷◌, ◌++◌, refl, sym, ap, ◌∙◌, subst, arith, true≢false, eqb-true, eq-eqb, ne_eqb}
+use Rattle.std.proofs.Common.{◌≡◌, ◌≢◌, ◌⊎◌, ⊎_elim, inl, inr, ℕ, ◌≤◌, Bool, true, false, cond, not, eqb, List, [], ◌∷◌, ◌++◌, append-nil, refl, sym, ap, ◌∙◌, subst, arith, true≢false, eqb-true, eq-eqb, ne_eqb}
 use Rattle.std.specs.List.{All, Contains, filter}
 use Rattle.std.proofs.lemmas.Bool.{cases_Bool}
 use Rattle.std.proofs.lemmas.List.Elements.{Contains-append_left, Contains-append_right, Contains-append_cases, Contains-push_cases, Contains-push, All-nil, All-cons}
@@ -10,7 +10,7 @@ use Rattle.ad_maps.specs.declared.view.Act.TheVariants as act
 use Rattle.ad_maps.specs.declared.view.Deed.{Deed}
 use Rattle.ad_maps.specs.declared.view.Deed.TheVariants as deed
 use Rattle.ad_maps.specs.declared.view.Made.{Made}
-use Rattle.ad_maps.specs.Ledger.{maps_in, line_in, reads_of, NeverFall}
+use Rattle.ad_maps.specs.Ledger.{maps_in, line_in, reads_of, retires_in, NeverFall}
 use Rattle.ad_maps.specs.Steps.{made, but, without}
 
 module _ {X : Type 0} where
@@ -118,3 +118,50 @@ lines-push (deed.Map m p ∷ ds) d none n = lines-push ds d none n
 lines-push (deed.Switch m p ∷ ds) d none n = lines-push ds d none n
 lines-push (deed.Retire k line ∷ ds) d none n = ap (λ (i : ℕ). cond (eqb k n) line i) (lines-push ds d none n)
 lines-push (deed.Unmap k ∷ ds) d none n = lines-push ds d none n
+
+pub retires-push : (deeds : List Deed) (d : Deed) → retires_in (deeds ++ d ∷ []) ≡ retires_in deeds ++ retires_in (d ∷ [])
+retires-push [] d = refl
+retires-push (deed.Look f o ∷ ds) d = retires-push ds d
+retires-push (deed.Map m p ∷ ds) d = retires-push ds d
+retires-push (deed.Switch m p ∷ ds) d = retires-push ds d
+retires-push (deed.Retire n line ∷ ds) d = ap (λ (ns : List ℕ). n ∷ ns) (retires-push ds d)
+retires-push (deed.Unmap n ∷ ds) d = retires-push ds d
+
+-- a deed that retires nothing leaves what was retired
+pub retires-same : (deeds : List Deed) (d : Deed) → retires_in (d ∷ []) ≡ [] → retires_in (deeds ++ d ∷ []) ≡ retires_in deeds
+retires-same deeds d none = retires-push deeds d ∙ (ap (λ (ns : List ℕ). retires_in deeds ++ ns) none ∙ append-nil (retires_in deeds))
+
+-- a mapping that a deed retires is one of those that were
+pub retires-there : (deeds : List Deed) (n line : ℕ) → Contains deeds (deed.Retire n line) → Contains (retires_in deeds) n
+retires-there [] n line c = absurd (none-in (deed.Retire n line) c)
+retires-there (deed.Look f o ∷ ds) n line c = ⊎_elim (λ e. absurd (let z : ⊥ = cc in z)) (retires-there ds n line) (cons-cases (deed.Look f o) ds (deed.Retire n line) c)
+retires-there (deed.Map m p ∷ ds) n line c = ⊎_elim (λ e. absurd (let z : ⊥ = cc in z)) (retires-there ds n line) (cons-cases (deed.Map m p) ds (deed.Retire n line) c)
+retires-there (deed.Switch m p ∷ ds) n line c = ⊎_elim (λ e. absurd (let z : ⊥ = cc in z)) (retires-there ds n line) (cons-cases (deed.Switch m p) ds (deed.Retire n line) c)
+retires-there (deed.Retire k l ∷ ds) n line c = ⊎_elim
+    (λ e. cons-here k (retires_in ds) n (let same : k ≡ n = cc in same))
+    (λ d. cons-later k (retires_in ds) n (retires-there ds n line d))
+    (cons-cases (deed.Retire k l) ds (deed.Retire n line) c)
+retires-there (deed.Unmap k ∷ ds) n line c = ⊎_elim (λ e. absurd (let z : ⊥ = cc in z)) (retires-there ds n line) (cons-cases (deed.Unmap k) ds (deed.Retire n line) c)
+
+-- the line of a mapping that wasn't retired before is that of the deed that retires it
+pub lines-retire : (deeds : List Deed) (n line : ℕ) → (Contains (retires_in deeds) n → ⊥) → line_in (deeds ++ deed.Retire n line ∷ []) n ≡ line
+lines-retire [] n line new = ap (λ (b : Bool). cond b line 0) (eq-eqb n n refl)
+lines-retire (deed.Look f o ∷ ds) n line new = lines-retire ds n line new
+lines-retire (deed.Map m p ∷ ds) n line new = lines-retire ds n line new
+lines-retire (deed.Switch m p ∷ ds) n line new = lines-retire ds n line new
+lines-retire (deed.Retire k l ∷ ds) n line new =
+    ap (λ (b : Bool). cond b l (line_in (ds ++ deed.Retire n line ∷ []) n)) (ne_eqb k n (λ e. new (cons-here k (retires_in ds) n e)))
+    ∙ lines-retire ds n line (λ c. new (cons-later k (retires_in ds) n c))
+lines-retire (deed.Unmap k ∷ ds) n line new = lines-retire ds n line new
+
+-- the line of another mapping stays
+pub lines-else : (deeds : List Deed) (n line i : ℕ) → i ≢ n → line_in (deeds ++ deed.Retire n line ∷ []) i ≡ line_in deeds i
+lines-else deeds n line i ne = go deeds
+  where
+    go : (deeds : List Deed) → line_in (deeds ++ deed.Retire n line ∷ []) i ≡ line_in deeds i
+    go [] = ap (λ (b : Bool). cond b line 0) (ne_eqb n i (λ e. ne (sym e)))
+    go (deed.Look f o ∷ ds) = go ds
+    go (deed.Map m p ∷ ds) = go ds
+    go (deed.Switch m p ∷ ds) = go ds
+    go (deed.Retire k l ∷ ds) = ap (λ (x : ℕ). cond (eqb k i) l x) (go ds)
+    go (deed.Unmap k ∷ ds) = go ds

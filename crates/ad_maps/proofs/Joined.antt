@@ -14,7 +14,7 @@ use Rattle.ad_maps.specs.declared.view.Doing.TheVariants.{Spent, Worker, Mover}
 use Rattle.ad_maps.specs.Rule.{Kept}
 use Rattle.ad_maps.specs.Seen.{SeatSeen}
 use Rattle.ad_maps.specs.Steps.{Sat, hand, after_join}
-use Rattle.ad_maps.specs.Private.Handles.{acts_of, gives_of, plan_of, worker_of, IsWorker}
+use Rattle.ad_maps.specs.Private.Handles.{acts_of, plan_of, worker_of, IsWorker}
 use Rattle.ad_maps.specs.Private.Numbered.{acts_back, HasBack}
 use Rattle.ad_maps.proofs.SeatLaws.{join_law}
 
@@ -38,7 +38,7 @@ back_count before seats me has =
 
 module _ (before : Plan) (seats : List SeatSeen) (me me' : Sat) (slot : ℕ) (has : HasBack before seats me) (is : IsWorker me' slot stance.Away) where
   abbrev theirs : Hand
-  theirs = hand slot stance.Away (gives_of me'.0) (acts_of me'.0)
+  theirs = hand slot stance.Away [] (acts_of me'.0)
 
   abbrev mine : Plan
   mine = record before { back = (plan_of me.0).back }
@@ -51,7 +51,7 @@ module _ (before : Plan) (seats : List SeatSeen) (me me' : Sat) (slot : ℕ) (ha
       let both : Sat → Sat → Type 0 = λ m n. Joins (Kept shape) id m.0 other n.0 (after_join m.0 n.0) Spent in
       subst (λ (m : Sat). both m me') (sym has.view)
       (subst (λ (n : Sat). both (Mover q, []) n) (sym is.view) (λ s r at apart there.
-      (join_law shape s r id q other w slot (gives_of me'.0) (acts_of me'.0) at apart
+      (join_law shape s r id q other w slot (acts_of me'.0) at apart
       (sym (set_else s.views id other (after_join (Mover q) (Worker w theirs)) apart) ∙ there)
       (next ∙ sym (back_count before seats me has))).kept))
 

@@ -1,5 +1,5 @@
 -- The mappings that were made, once the mover has looked at frames, made a mapping, or switched.
-use Rattle.std.proofs.Common.{◌≡◌, ⊎_elim, ℕ, ◌+◌, List, [], ◌∷◌, ◌++◌, append-nil, append_assoc, refl, sym, ap, ◌∙◌, subst}
+use Rattle.std.proofs.Common.{◌≡◌, ⊎_elim, ℕ, ◌+◌, List, [], ◌∷◌, ◌++◌, map, append-nil, append_assoc, refl, sym, ap, ◌∙◌, subst}
 use Rattle.std.specs.List.{Contains}
 use Rattle.std.proofs.lemmas.List.Elements.{Contains-push_cases}
 use Rattle.ad_base.specs.declared.place.Place.{Place}
@@ -8,7 +8,7 @@ use Rattle.ad_maps.specs.declared.view.Deed.{Deed}
 use Rattle.ad_maps.specs.declared.view.Deed.TheVariants as deed
 use Rattle.ad_maps.specs.declared.view.Made.{Made}
 use Rattle.ad_maps.specs.Ledger.{opened_from, maps_in, all_made}
-use Rattle.ad_maps.specs.Seen.{looks_from}
+use Rattle.ad_maps.specs.Seen.{looks_from, AddsRetires}
 use Rattle.ad_maps.specs.Steps.{made}
 use Rattle.ad_maps.proofs.Elements.{maps-push}
 use Rattle.ad_maps.proofs.MappingFrames.{ledger-same}
@@ -47,3 +47,24 @@ all-after_looks P shape deeds deeds' f os e old x c = old x (subst (λ (gs : Lis
 
 pub all-after_switch : (P : Made → Type 0) (shape : Shape) (deeds deeds' : List Deed) (m : ℕ) (p : Place) → deeds' ≡ deeds ++ deed.Switch m p ∷ [] → ((x : Made) → Contains (all_made shape deeds) x → P x) → (x : Made) → Contains (all_made shape deeds') x → P x
 all-after_switch P shape deeds deeds' m p e old x c = old x (subst (λ (gs : List Made). Contains gs x) (ap (all_made shape) e ∙ ledger-switch shape deeds m p) c)
+
+no-retires : (outs : List Made) (line : ℕ) → maps_in (map (λ (g : Made). deed.Retire g.place.mapping line) outs) ≡ []
+no-retires [] line = refl
+no-retires (g ∷ outs) line = no-retires outs line
+
+no-unmaps : (numbers : List ℕ) → maps_in (map (λ (n : ℕ). deed.Unmap n) numbers) ≡ []
+no-unmaps [] = refl
+no-unmaps (n ∷ numbers) = no-unmaps numbers
+
+-- what was made is all that is made after mappings were retired
+pub all-after_retires : (P : Made → Type 0) (shape : Shape) (outs : List Made) (line : ℕ) (deeds deeds' : List Deed) → AddsRetires outs line deeds deeds' → ((x : Made) → Contains (all_made shape deeds) x → P x) → (x : Made) → Contains (all_made shape deeds') x → P x
+all-after_retires P shape outs line deeds deeds' adds old x c =
+    let retires = map (λ (g : Made). deed.Retire g.place.mapping line) outs in
+    let unmaps = map (λ (n : ℕ). deed.Unmap n) adds.numbers in
+    let same : maps_in deeds' ≡ maps_in deeds =
+    ap maps_in adds.grew
+    ∙ (maps-append (deeds ++ retires) unmaps
+    ∙ (ap (λ (gs : List Made). maps_in (deeds ++ retires) ++ gs) (no-unmaps adds.numbers)
+    ∙ (append-nil (maps_in (deeds ++ retires))
+    ∙ (maps-append deeds retires ∙ (ap (λ (gs : List Made). maps_in deeds ++ gs) (no-retires outs line) ∙ append-nil (maps_in deeds)))))) in
+    old x (subst (λ (gs : List Made). Contains gs x) (ap (λ (gs : List Made). opened_from 0 shape.modules ++ gs) same) c)

@@ -2,6 +2,7 @@ pub mod Writes
 pub mod Seats
 pub mod Machine
 pub mod Numbers
+pub mod Telling
 pub mod Frames
 pub mod Elements
 pub mod Hands
@@ -22,4 +23,17 @@ pub mod Ledgers
 pub mod Readings
 pub mod Numbering
 pub mod Joined
+pub mod Unmaps
 pub mod Ended
+pub mod Freeings
+pub mod Batches
+pub mod PayLaw
+pub mod OpenLaw
+pub mod Regions
+pub mod ListLaw
+pub mod FreeLaws
+pub mod Freed
+pub mod Idle
+pub mod Retired
+pub mod OwingLaws
+pub mod Trials

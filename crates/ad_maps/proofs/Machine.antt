@@ -1,5 +1,5 @@
 -- The state of the joined machine: it meets the machine's invariant, and a step more is reached too.
-use Rattle.std.proofs.Common.{◌≡◌, ℕ, ◌<◌, [], ◌∷◌, ◌++◌, length, get_or, sym, ap, ◌∙◌, subst, arith}
+use Rattle.std.proofs.Common.{◌≡◌, ℕ, ◌<◌, [], ◌∷◌, ◌++◌, length, get_or, refl, sym, ap, ◌∙◌, subst, arith}
 use Rattle.std.proofs.lemmas.List.{length-map, get_or-map}
 use Rattle.ad_events.specs.World.{AllDiffer}
 use Rattle.ad_events.specs.OwedInvariant.{IsSized}
@@ -37,6 +37,11 @@ reached_after shape j x reached may =
       may = may-append machine.MayStep machine.after start reached.past (x ∷ []) reached.may (subst (λ (k : ReclaimState). machine.MayStep k x) reached.is may, tt);
       is = ap (λ (k : ReclaimState). machine.after k x) reached.is ∙ sym (run-append machine.MayStep machine.after start reached.past x);
     }
+
+-- it is the last one made
+pub past_after : (shape : Shape) (j : ReclaimState) (x : machine.Step) (reached : Reached shape j) (may : machine.MayStep j x) → (reached_after shape j x reached may).past ≡ reached.past ++ x ∷ []
+unfolding reached_after
+past_after shape j x reached may = refl
 
 -- a step that may be made is lawful in the world
 pub lawful_of : (shape : Shape) → IsShape shape → (j : ReclaimState) → Reached shape j → (x : machine.Step) → machine.MayStep j x → LawfulIfSome j.world (machine.event_of x)

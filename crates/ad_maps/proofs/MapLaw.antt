@@ -12,7 +12,7 @@ use Rattle.ad_events.specs.declared.mapping.Mapping.{Mapping}
 use Rattle.ad_events.specs.Functions.{changed}
 use Rattle.ad_events.specs.World.{mapping_of}
 use Rattle.ad_events.specs.Reclaim as machine
-use Rattle.ad_events.proofs.Functions.{changed-here, changed-else, some≢none, option-cases}
+use Rattle.ad_events.proofs.Functions.{changed-here, changed-else, option-cases}
 use Rattle.ad_events.proofs.WorldLemmas.{same_mapping}
 use Rattle.ad_events.proofs.WorldReads.{map-here, map-other}
 use Rattle.ad_maps.specs.declared.shape.Shape.{Shape}
@@ -23,18 +23,21 @@ use Rattle.ad_maps.specs.declared.view.Stage.TheVariants as stage
 use Rattle.ad_maps.specs.declared.view.Plan.{Plan}
 use Rattle.ad_maps.specs.declared.view.Doing.TheVariants.{Mover}
 use Rattle.ad_maps.specs.Laws.{Adds, moved, MapLaw}
-use Rattle.ad_maps.specs.Ledger.{opened_from, maps_in}
-use Rattle.ad_maps.specs.MapPlace.{cell_word, cells_of}
+use Rattle.ad_maps.specs.Ledger.{maps_in, opened_from, unmaps_in_deeds}
+use Rattle.ad_maps.specs.MapPlace.{cell_word, cells_of, member_word}
 use Rattle.ad_maps.specs.Names.{Directory, wrote}
-use Rattle.ad_maps.specs.Rule.{St, Kept, AllMappings, IsAs, IsMapped, MappingStands, Mappings, OwnerStands, RegionStands, GiveStands, IsToGive, StageStands, IsFilled, AreAll, CurrentStands}
+use Rattle.ad_maps.specs.Rule.{St, Kept, AllMappings, IsAs, IsMapped, MappingStands, Mappings, OwnerStands, RegionStands, GiveStands, IsToGive, StageStands, IsFilled, AreAll, CurrentStands, IsMember}
 use Rattle.ad_maps.specs.Steps.{made, mapping}
-use Rattle.ad_maps.proofs.Elements.{maps-push, lines-push}
+use Rattle.ad_maps.proofs.Elements.{maps-push, lines-push, retires-same}
+use Rattle.ad_maps.proofs.Batches.{listed-there}
 use Rattle.ad_maps.proofs.Frames.{mover_step}
+use Rattle.ad_maps.proofs.Freeings.{map-brings, freed-after, batching-plan}
 use Rattle.ad_maps.proofs.Hands.{hand_stays}
-use Rattle.ad_maps.proofs.Machine.{reached_after, lawful_of}
+use Rattle.ad_maps.proofs.Machine.{holds_of, reached_after, lawful_of}
 use Rattle.ad_maps.proofs.MappingFrames.{words-stay, cell-past, mover_knows, module-there}
 use Rattle.ad_maps.proofs.Numbers.{region-few}
 use Rattle.ad_maps.proofs.Writes.{writes}
+use Rattle.ad_maps.proofs.Telling.{deeds-more, told-quiet}
 
 module _ (shape : Shape) (s : St) (r : Kept shape s) (q : Plan) (g : Made)
     (m : Mappings shape r.state.world.mappings r.places r.ledger q r.gives r.words.current r.words.directory r.words.owner r.words.cell)
@@ -134,16 +137,16 @@ module _ (shape : Shape) (s : St) (r : Kept shape s) (q : Plan) (g : Made)
             (old.0, old.1, stays old.0 old.1 old.2, ap (λ (p : Place). p.region) (changed-else r.places n g.place old.0 (other old.0 old.1 old.2)) ∙ old.3)
       ]
 
-  each_owner' : q.stage ≡ stage.Taken g (length (cells_of shape g.of_module)) → (f : ℕ) → OwnerStands ms' places' (IsToGive r.gives q.gives) stage.Idle f (r.words.owner f)
+  each_owner' : q.stage ≡ stage.Taken g (length (cells_of shape g.of_module)) → (f : ℕ) → OwnerStands ms' places' (IsToGive r.gives) stage.Idle f (r.words.owner f)
   each_owner' taken f = ⊎_elim inl
       (λ d. ⊎_elim
       (λ t. inr (inl (t.0, stays (r.words.owner f) t.0 t.1, t.2, ap (λ (p : Place). p.frame) (changed-else r.places n g.place (r.words.owner f) (other (r.words.owner f) t.0 t.1)) ∙ t.3)))
       (λ d. ⊎_elim (λ t. inr (inr (inl t)))
       (λ t. inr (inl (mapping_of g.of_module Fresh, ap (map.get ms') (sym t.1) ∙ here, (λ e. let z : ⊥ = cc in z), ap (λ (p : Place). p.frame) (changed-here r.places n g.place (r.words.owner f) (sym t.1)) ∙ t.0)))
       d) d)
-      (subst (λ (d : Stage). OwnerStands ms r.places (IsToGive r.gives q.gives) d f (r.words.owner f)) taken (m.each_owner f))
+      (subst (λ (d : Stage). OwnerStands ms r.places (IsToGive r.gives) d f (r.words.owner f)) taken (m.each_owner f))
 
-  each_give' : (p : Place) → IsToGive r.gives q.gives p → GiveStands ms' places' r.words.owner p
+  each_give' : (p : Place) → IsToGive r.gives p → GiveStands ms' places' r.words.owner p
   each_give' p c = let old = m.each_give p c in record { «module» = old.module; gone = goes_on (made old.module p) Gone old.gone; owns = old.owns }
 
   fresh' : AreAll ms' places' (q.fresh ++ g ∷ []) Fresh
@@ -202,10 +205,15 @@ map_law shape s r id q g at taken =
     let q' : Plan = record q { stage = stage.Idle; fresh = q.fresh ++ g ∷ []; deeds = q.deeds ++ deed.Map g.of_module g.place ∷ [] } in
     let places' : ℕ → Place = changed r.places n g.place in
     let ledger' : List Made = r.ledger ++ g ∷ [] in
+    let row : (j b : ℕ) → r.state.batch j ≡ Some b → member_word (r.lines j) (places' j).region ≡ member_word (r.lines j) (r.places j).region = λ j b is.
+    (let t = listed-there shape s r j b is in ap (λ (p : Place). member_word (r.lines j) p.region) (changed-else r.places n g.place j (other shape s r q g k.mappings now j t.0 t.1))) in
+    let still : (b i j : ℕ) → r.state.batch j ≡ Some b → IsMember r.words.member r.lines r.places b i j → IsMember r.words.member r.lines places' b i j = λ b i j is e.
+    e ∙ sym (row j b is) in
     let step = mover_step shape s r id q' k.mine (set s.words (24 + g.place.region) (packed g.place)) (wrote r.words (Directory g.place.region) (packed g.place)) j places' ledger'
     (ap (λ (p : Plan). p.slots) k.is) (ap (λ (p : Plan). p.dealt) k.is) (ap (λ (p : Plan). p.back) k.is)
     (writes s.words r.words (Directory g.place.region) (packed g.place) (region-few shape g.of_module g.place now.form) r.reads)
     (reached_after shape r.state x r.reached may)
+    (told-quiet shape r.state r.reached machine.Mover x may (unmaps_in_deeds r.plan.deeds) (unmaps_in_deeds q'.deeds) (λ c n. refl) (deeds-more q r.plan (deed.Map g.of_module g.place) k.is (λ i. refl)))
     (mappings' shape s r q g k.mappings now taken)
     (record {
       slots = r.owing.slots;
@@ -213,11 +221,15 @@ map_law shape s r id q g at taken =
       each_slot = r.owing.each_slot;
       each_count = r.owing.each_count;
       no_count = r.owing.no_count;
-      each_listed = λ i b is. absurd (some≢none b (sym is ∙ r.no_batch.unlisted i));
-      each_member = λ b i some. absurd (let t = r.owing.each_member b i some in some≢none b (sym t.1 ∙ r.no_batch.unlisted t.0));
+      each_listed = λ i b is. (let t = r.owing.each_listed i b is in (t.0, t.1, still b t.0 i is t.2));
+      each_member = λ b i some. (let t = r.owing.each_member b i some in (t.0, t.1, still b i t.0 t.1 t.2));
+      once = r.owing.once;
       each_line = r.owing.each_line;
+      some_line = r.owing.some_line;
     })
-    (record { unopened = r.no_batch.unopened; unlisted = r.no_batch.unlisted })
+    (batching-plan r.state.owed r.state.batch r.words.member q q' refl refl (retires-same q.deeds (deed.Map g.of_module g.place) refl) k.batching)
+    (freed-after r.state (holds_of shape r.form r.state r.reached) x may r.words.member r.words.member r.lines r.lines r.places places' (λ b i opened. refl) (λ j b is. row j b is) (map-brings r.state g.of_module n) r.gives r.frees r.freed)
+    (ap (λ (p : Plan). p.freeing) k.is) (ap (λ (p : Plan). p.gives) k.is)
     (ap (λ (gs : List Made). gs ++ g ∷ []) k.ledger_is ∙ (append_assoc (opened_from 0 shape.modules) (maps_in q.deeds) (g ∷ []) ∙ ap (λ (gs : List Made). opened_from 0 shape.modules ++ gs) (sym (maps-push q.deeds (deed.Map g.of_module g.place)))))
     (λ i. k.lines_are i ∙ sym (lines-push q.deeds (deed.Map g.of_module g.place) (λ i. refl) i))
     (λ v. refl)

@@ -11,15 +11,18 @@ use Rattle.ad_base.specs.declared.place.Place.{Place}
 use Rattle.ad_events.specs.declared.mapping.Status.{Status}
 use Rattle.ad_events.specs.declared.mapping.Status.TheVariants.{Fresh, Current, Out, Retired, Gone}
 use Rattle.ad_events.specs.World.{mapping_of}
+use Rattle.ad_events.specs.Reclaim as machine
 use Rattle.ad_maps.specs.declared.shape.Shape.{Shape}
 use Rattle.ad_maps.specs.declared.view.Deed.{Deed}
+use Rattle.ad_maps.specs.declared.view.Freeing.{Freeing}
+use Rattle.ad_maps.specs.declared.view.Passing.{Passing}
 use Rattle.ad_maps.specs.declared.view.Hand.{Hand}
 use Rattle.ad_maps.specs.declared.view.Made.{Made}
 use Rattle.ad_maps.specs.declared.view.Plan.{Plan}
 use Rattle.ad_maps.specs.declared.view.Doing.TheVariants.{Mover}
 use Rattle.ad_maps.specs.Ledger.{opened_from, maps_in, all_made, line_in}
 use Rattle.ad_maps.specs.MapPlace.{cell_word}
-use Rattle.ad_maps.specs.Rule.{St, Kept, IsMapped, WordsSay, Mappings}
+use Rattle.ad_maps.specs.Rule.{St, Kept, IsMapped, WordsSay, Batching, Dealt, Mappings}
 use Rattle.ad_maps.proofs.Elements.{maps-push}
 use Rattle.ad_maps.proofs.Machine.{holds_of}
 
@@ -68,6 +71,25 @@ mappings-stay shape s r q m rooms free dealt deeds back = record {
   stage = m.stage;
 }
 
+-- nor does it say anything of them how far the mover's batch is, and what it frees
+pub plan-stays : (shape : Shape) (s : St) (r : Kept shape s) (q : Plan) → Mappings shape r.state.world.mappings r.places r.ledger q r.gives r.words.current r.words.directory r.words.owner r.words.cell
+    → (batches : ℕ) (passing : Passing) (freeing : Freeing) (deeds : List Deed)
+    → Mappings shape r.state.world.mappings r.places r.ledger (record q { batches = batches; passing = passing; freeing = freeing; deeds = deeds }) r.gives r.words.current r.words.directory r.words.owner r.words.cell
+plan-stays shape s r q m batches passing freeing deeds = record {
+  each = m.each;
+  each_made = m.each_made;
+  wide = m.wide;
+  each_current = m.each_current;
+  each_region = m.each_region;
+  each_owner = m.each_owner;
+  each_give = m.each_give;
+  past_cells = m.past_cells;
+  fresh = m.fresh;
+  outs = m.outs;
+  rooms = m.rooms;
+  stage = m.stage;
+}
+
 -- ---- what the mover's seat knows
 
 pub record MoverKnows (shape : Shape) (s : St) (r : Kept shape s) (id : ℕ) (q : Plan) : Type 0 where
@@ -76,11 +98,15 @@ pub record MoverKnows (shape : Shape) (s : St) (r : Kept shape s) (id : ℕ) (q 
   pub mappings : Mappings shape r.state.world.mappings r.places r.ledger q r.gives r.words.current r.words.directory r.words.owner r.words.cell
   pub ledger_is : r.ledger ≡ all_made shape q.deeds
   pub lines_are : (n : ℕ) → r.lines n ≡ line_in q.deeds n
+  pub batching : Batching r.state.owed r.state.batch r.words.member q
+  pub freeing : q.freeing ≡ r.frees machine.Mover
+  pub gives : q.gives ≡ r.gives machine.Mover
+  pub dealt : Dealt shape r.hands q
 
 pub mover_knows : (shape : Shape) (s : St) (r : Kept shape s) (id : ℕ) (q : Plan) → get_elem? s.views id ≡ some (Mover q) → MoverKnows shape s r id q
 mover_knows shape s r id q at =
     let k = r.each_seat id (Mover q) at in
-    subst (MoverKnows shape s r id) (sym k.0) (record { is = refl; mine = k.1; mappings = r.mappings; ledger_is = r.ledger_is; lines_are = r.lines_are })
+    subst (MoverKnows shape s r id) (sym k.0) (record { is = refl; mine = k.1; mappings = r.mappings; ledger_is = r.ledger_is; lines_are = r.lines_are; batching = r.batching; freeing = r.tells.own; gives = r.tells.own_gives; dealt = r.dealt })
 
 -- a deed that makes no mapping leaves the ledger
 pub ledger-same : (shape : Shape) (deeds : List Deed) (d : Deed) → maps_in (d ∷ []) ≡ [] → all_made shape (deeds ++ d ∷ []) ≡ all_made shape deeds

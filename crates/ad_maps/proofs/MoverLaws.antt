@@ -8,6 +8,7 @@ use Rattle.ad_base.specs.Place.{base_of}
 use Rattle.ad_events.specs.declared.mapping.Mapping.{Mapping}
 use Rattle.ad_events.specs.Functions.{changed}
 use Rattle.ad_events.proofs.Functions.{changed-here, changed-else}
+use Rattle.ad_events.specs.Reclaim as machine
 use Rattle.ad_maps.specs.declared.shape.Shape.{Shape}
 use Rattle.ad_maps.specs.declared.view.Deed.TheVariants as deed
 use Rattle.ad_maps.specs.declared.view.Made.{Made}
@@ -18,13 +19,16 @@ use Rattle.ad_maps.specs.declared.view.Doing.TheVariants.{Mover}
 use Rattle.ad_maps.specs.Laws.{Stays, moved, LookLaw, TakeLaw, FillLaw}
 use Rattle.ad_maps.specs.MapPlace.{cell_word, cells_of, module_of_frame, IsShape}
 use Rattle.ad_maps.specs.Names.{Owner, Cell, wrote}
+use Rattle.ad_maps.specs.Ledger.{unmaps_in_deeds}
 use Rattle.ad_maps.specs.Rule.{St, Kept, HandStands, OwnerStands, IsToGive, StageStands, IsFilled}
 use Rattle.ad_maps.specs.Steps.{looking, taking, filling}
-use Rattle.ad_maps.proofs.Elements.{cons-cases, without-from, lines-push}
+use Rattle.ad_maps.proofs.Elements.{cons-cases, without-from, lines-push, retires-same}
 use Rattle.ad_maps.proofs.Frames.{mover_step}
+use Rattle.ad_maps.proofs.Freeings.{batching-plan}
 use Rattle.ad_maps.proofs.MappingFrames.{mappings-stay, words-stay, mover_knows, ledger-same}
 use Rattle.ad_maps.proofs.Numbers.{frame-few}
 use Rattle.ad_maps.proofs.Writes.{writes, rereads, row-here, row-column, row-else}
+use Rattle.ad_maps.proofs.Telling.{deeds-more, deeds-stay, told-none}
 
 -- the hands stay as they were, where nothing was made and no current mapping changed
 same-hands : (shape : Shape) (s : St) (r : Kept shape s) (q : Plan) → q.current ≡ r.plan.current → (v : ℕ)
@@ -51,9 +55,12 @@ look_law shape s r id q f at few =
     (ap (λ (p : Plan). p.slots) k.is) (ap (λ (p : Plan). p.dealt) k.is) (ap (λ (p : Plan). p.back) k.is)
     (rereads s.words r.words i r.reads)
     r.reached
+    (told-none machine.Mover r.reached.past (unmaps_in_deeds r.plan.deeds) (unmaps_in_deeds q'.deeds) (deeds-more q r.plan (deed.Look f found) k.is (λ n. refl)))
     (mappings-stay shape s r q m q'.rooms free q.dealt q'.deeds q.back)
     r.owing
-    r.no_batch
+    (batching-plan r.state.owed r.state.batch r.words.member q q' refl refl (retires-same q.deeds (deed.Look f found) refl) k.batching)
+    r.freed
+    (ap (λ (p : Plan). p.freeing) k.is) (ap (λ (p : Plan). p.gives) k.is)
     (k.ledger_is ∙ sym (ledger-same shape q.deeds (deed.Look f found) refl))
     (λ n. k.lines_are n ∙ sym (lines-push q.deeds (deed.Look f found) (λ n. refl) n))
     (λ v. refl)
@@ -82,6 +89,7 @@ take_law shape s r id q g at idle may =
     (ap (λ (p : Plan). p.slots) k.is) (ap (λ (p : Plan). p.dealt) k.is) (ap (λ (p : Plan). p.back) k.is)
     (writes s.words r.words (Owner f) n few r.reads)
     r.reached
+    (told-none machine.Mover r.reached.past (unmaps_in_deeds r.plan.deeds) (unmaps_in_deeds q.deeds) (deeds-stay q r.plan k.is))
     (record {
       each = λ j x there. (let old = m.each j x there in let some = numbered shape s r j x there in record {
         number = old.number;
@@ -96,7 +104,7 @@ take_law shape s r id q g at idle may =
       each_owner = λ h.
           elim (cases_eq h f) [
             | inl e ↦ inr (inr (inr (sym e, sym (changed-here r.words.owner f n h e))))
-            | inr ne ↦ subst (OwnerStands r.state.world.mappings r.places (IsToGive r.gives q.gives) (stage.Taken g 0) h) (sym (changed-else r.words.owner f n h ne)) (not-taken h (r.words.owner h) (subst (λ (d : Stage). OwnerStands r.state.world.mappings r.places (IsToGive r.gives q.gives) d h (r.words.owner h)) idle (m.each_owner h)))
+            | inr ne ↦ subst (OwnerStands r.state.world.mappings r.places (IsToGive r.gives) (stage.Taken g 0) h) (sym (changed-else r.words.owner f n h ne)) (not-taken h (r.words.owner h) (subst (λ (d : Stage). OwnerStands r.state.world.mappings r.places (IsToGive r.gives) d h (r.words.owner h)) idle (m.each_owner h)))
           ];
       each_give = λ p c. (let old = m.each_give p c in let some = (m.each p.mapping _ old.gone.there).form.place.place.mapping_from in let same = ap (λ (x : Place). x.mapping) old.gone.placed in let owns = old.owns in record {
         «module» = old.module;
@@ -117,14 +125,16 @@ take_law shape s r id q g at idle may =
       };
     })
     r.owing
-    r.no_batch
+    (batching-plan r.state.owed r.state.batch r.words.member q q' refl refl refl k.batching)
+    r.freed
+    (ap (λ (p : Plan). p.freeing) k.is) (ap (λ (p : Plan). p.gives) k.is)
     k.ledger_is
     k.lines_are
     (λ v. refl)
     (same-hands shape s r q' (ap (λ (p : Plan). p.current) k.is)) in
     record { kept = step.kept; state = step.state }
   where
-    not-taken : (h o : ℕ) → OwnerStands r.state.world.mappings r.places (IsToGive r.gives q.gives) stage.Idle h o → OwnerStands r.state.world.mappings r.places (IsToGive r.gives q.gives) (stage.Taken g 0) h o
+    not-taken : (h o : ℕ) → OwnerStands r.state.world.mappings r.places (IsToGive r.gives) stage.Idle h o → OwnerStands r.state.world.mappings r.places (IsToGive r.gives) (stage.Taken g 0) h o
     not-taken h o c = ⊎_elim inl (λ d. ⊎_elim (λ t. inr (inl t)) (λ d. ⊎_elim (λ t. inr (inr (inl t))) (λ t. absurd t) d) d) c
 
 -- ---- fill
@@ -144,6 +154,7 @@ fill_law shape s r id q g e at taken low =
     (ap (λ (p : Plan). p.slots) k.is) (ap (λ (p : Plan). p.dealt) k.is) (ap (λ (p : Plan). p.back) k.is)
     (writes s.words r.words (Cell f e) x (few, small) r.reads)
     r.reached
+    (told-none machine.Mover r.reached.past (unmaps_in_deeds r.plan.deeds) (unmaps_in_deeds q.deeds) (deeds-stay q r.plan k.is))
     (record {
       each = λ j y there. (let old = m.each j y there in let below = now.above _ old.listed in let frame = now.owns in record {
         number = old.number;
@@ -156,7 +167,7 @@ fill_law shape s r id q g e at taken low =
       wide = m.wide;
       each_current = m.each_current;
       each_region = m.each_region;
-      each_owner = λ h. subst (λ (d : Stage). OwnerStands r.state.world.mappings r.places (IsToGive r.gives q.gives) d h (r.words.owner h)) taken (m.each_owner h);
+      each_owner = λ h. subst (λ (d : Stage). OwnerStands r.state.world.mappings r.places (IsToGive r.gives) d h (r.words.owner h)) taken (m.each_owner h);
       each_give = m.each_give;
       past_cells = λ h d past.
           elim (cases_eq h f) [
@@ -184,7 +195,9 @@ fill_law shape s r id q g e at taken low =
       };
     })
     r.owing
-    r.no_batch
+    (batching-plan r.state.owed r.state.batch r.words.member q q' refl refl refl k.batching)
+    r.freed
+    (ap (λ (p : Plan). p.freeing) k.is) (ap (λ (p : Plan). p.gives) k.is)
     k.ledger_is
     k.lines_are
     (λ v. refl)

@@ -26,6 +26,8 @@ use Rattle.ad_events.proofs.WorldReads.{opening-has}
 use Rattle.ad_maps.specs.declared.shape.Opening.{Opening}
 use Rattle.ad_maps.specs.declared.shape.Shape.{Shape}
 use Rattle.ad_maps.specs.declared.view.Stage.TheVariants as stage
+use Rattle.ad_maps.specs.declared.view.Passing.TheVariants as passing
+use Rattle.ad_maps.specs.declared.view.Freeing.TheVariants as freeing
 use Rattle.ad_maps.specs.declared.view.Hand.{Hand}
 use Rattle.ad_maps.specs.declared.view.Made.{Made}
 use Rattle.ad_maps.specs.declared.view.Plan.{Plan}
@@ -137,7 +139,7 @@ module _ (shape : Shape) (form : IsShape shape) (xs : List ℕ) (laid : Laid sha
   none-other : (s : Status) → s ≢ Current → (n m : ℕ) → map.get ms n ≡ Some (mapping_of m s) → ⊥
   none-other s apart n m there = apart (ap (λ (x : Mapping). x.status) (from n (mapping_of m s) there).3)
 
-  mappings : Mappings shape ms places ledger (record { stage = stage.Idle; slots = shape.slots; dealt = 0; current = numbers shape; fresh = []; outs = []; rooms = []; gives = []; deeds = []; back = [] }) (λ _. [])
+  mappings : Mappings shape ms places ledger (record { stage = stage.Idle; passing = passing.Rest; batches = 0; freeing = freeing.Nothing; slots = shape.slots; dealt = 0; current = numbers shape; fresh = []; outs = []; rooms = []; gives = []; deeds = []; back = [] }) (λ _. [])
       laid.words.current laid.words.directory laid.words.owner laid.words.cell
   mappings = record {
     each = λ n x there.
@@ -159,7 +161,7 @@ module _ (shape : Shape) (form : IsShape shape) (xs : List ℕ) (laid : Laid sha
     each_owner = λ f. ⊎_elim inl
         (λ t. inr (inl (mapping_of t.0 Current, ap (map.get ms) t.3 ∙ (is_current t.0 t.1).there, (λ e. let z : ⊥ = cc in z), ap (λ (p : Place). p.frame) (ap places t.3 ∙ placed t.0 t.1) ∙ t.2)))
         (laid.laid.owned f);
-    each_give = λ p c. absurd (⊎_elim (λ t. none-in p t.1) (λ t. none-in p t) c);
+    each_give = λ p c. absurd (none-in p c.1);
     past_cells = laid.laid.past;
     fresh = record { each = λ g c. absurd (none-in g c); only = λ n m there. absurd (none-other Fresh (λ e. let z : ⊥ = cc in z) n m there) };
     outs = record { each = λ g c. absurd (none-in g c); only = λ n m there. absurd (none-other Out (λ e. let z : ⊥ = cc in z) n m there) };
@@ -170,7 +172,7 @@ module _ (shape : Shape) (form : IsShape shape) (xs : List ℕ) (laid : Laid sha
   -- the rule holds of the table as it is opened
   pub opening_kept : Kept shape (opening xs [] (starting shape))
   opening_kept =
-      let plan : Plan = record { stage = stage.Idle; slots = shape.slots; dealt = 0; current = numbers shape; fresh = []; outs = []; rooms = []; gives = []; deeds = []; back = [] } in
+      let plan : Plan = record { stage = stage.Idle; passing = passing.Rest; batches = 0; freeing = freeing.Nothing; slots = shape.slots; dealt = 0; current = numbers shape; fresh = []; outs = []; rooms = []; gives = []; deeds = []; back = [] } in
       let hands : ℕ → Hand = λ w. new_hand (w % shape.slots) in record {
         words = laid.words;
         state = machine.reclaim_opening shape.slots shape.workers (numbers shape);
@@ -178,6 +180,7 @@ module _ (shape : Shape) (form : IsShape shape) (xs : List ℕ) (laid : Laid sha
         ledger = ledger;
         lines = λ _. 0;
         gives = λ _. [];
+        frees = λ _. freeing.Nothing;
         hands = hands;
         seater = λ _. 0;
         plan = plan;
@@ -194,9 +197,22 @@ module _ (shape : Shape) (form : IsShape shape) (xs : List ℕ) (laid : Laid sha
           no_count = λ b low. laid.laid.count b;
           each_listed = λ n b is. absurd (some≢none b (sym is));
           each_member = λ b k some_word. absurd (some_word (laid.laid.member b k));
+          once = λ b i k some_word. absurd (some_word (laid.laid.member b i));
           each_line = λ n is. refl;
+          some_line = λ n b is. absurd (some≢none b (sym is));
         };
-        no_batch = record { unopened = refl; unlisted = λ n. refl };
+        batching = record {
+          number = refl;
+          stands = λ b opened. absurd (no_batch shape.slots shape.workers b opened);
+          enough = omega arith;
+          retired = λ n c. absurd (none-in n c);
+          differ = λ i j d before inside. absurd (omega arith);
+          next = λ k l. laid.laid.member (0 + 1) k;
+          later = λ b k l. laid.laid.member b k;
+        };
+        freed = record { each = λ a n b is. absurd (some≢none b (sym is)); each_give = λ a p c. absurd (none-in p c) };
+        tells = record { hand = λ w. refl; own = refl; own_gives = refl };
+        unmaps = record { worker = λ w n. refl; mover = λ n. refl };
         ledger_is = refl;
         lines_are = λ n. refl;
         each_stance = λ w. opening-away shape.slots shape.workers w;

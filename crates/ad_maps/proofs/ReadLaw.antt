@@ -20,17 +20,20 @@ use Rattle.ad_maps.specs.declared.view.Stance.TheVariants as stance
 use Rattle.ad_maps.specs.declared.view.Hand.{Hand}
 use Rattle.ad_maps.specs.declared.view.Doing.TheVariants.{Worker}
 use Rattle.ad_maps.specs.Laws.{Adds, ReadLaw}
-use Rattle.ad_maps.specs.Ledger.{reads_of, NeverFall}
+use Rattle.ad_maps.specs.Ledger.{act_unmaps, reads_of, unmaps_in_acts, NeverFall}
 use Rattle.ad_maps.specs.MapPlace.{IsPlaceOf}
 use Rattle.ad_maps.specs.Names.{Current as CurrentWord}
 use Rattle.ad_maps.specs.Rule.{St, Kept, IsAs, ReadStands}
 use Rattle.ad_maps.specs.Steps.{hand, made}
 use Rattle.ad_maps.proofs.Elements.{reads-push, reads-bound, falls-push}
+use Rattle.ad_maps.proofs.Batches.{batching-worker, freed-same}
 use Rattle.ad_maps.proofs.Frames.{worker_knows, worker_step}
+use Rattle.ad_maps.proofs.Freeings.{read-brings}
 use Rattle.ad_maps.proofs.Hands.{hand_stays}
 use Rattle.ad_maps.proofs.Machine.{reached_after, lawful_of}
 use Rattle.ad_base.proofs.Packing.{place_at-packed}
 use Rattle.ad_maps.proofs.Writes.{rereads}
+use Rattle.ad_maps.proofs.Telling.{count-same, told-quiet}
 
 -- what the word of a module's current mapping says
 pub record CurrentKnown (shape : Shape) (s : St) (r : Kept shape s) (m : ℕ) (q : Place) : Type 0 where
@@ -96,9 +99,12 @@ read_law shape s r id w slot entry m gives acts at low = read_with shape s r id 
         let step = worker_step shape s r id w h h' at (set s.words (16 + m) (get_or s.words (16 + m) 0)) r.words j
         (rereads s.words r.words (16 + m) r.reads)
         (reached_after shape r.state x r.reached may)
+        (told-quiet shape r.state r.reached (machine.Worker w) x may (unmaps_in_acts acts) (unmaps_in_acts (acts ++ act.Read m q ∷ [])) (λ c n. refl) (λ n. count-same (act_unmaps n) acts (act.Read m q) refl))
         r.mappings
         r.owing
-        (record { unopened = r.no_batch.unopened; unlisted = r.no_batch.unlisted })
+        (batching-worker shape s r x may (λ e. let f : ⊥ = cc in f) refl)
+        (freed-same shape s r x may (read-brings r.state w m q.mapping))
+        refl
         k.seat
         (λ v ne. refl)
         (record {

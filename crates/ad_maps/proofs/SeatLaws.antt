@@ -13,9 +13,10 @@ use Rattle.ad_maps.specs.declared.view.Plan.{Plan}
 use Rattle.ad_maps.specs.declared.view.Doing.{Doing}
 use Rattle.ad_maps.specs.declared.view.Doing.TheVariants.{Spent, Worker, Mover}
 use Rattle.ad_maps.specs.Laws.{SplitLaw, JoinLaw, Stays}
-use Rattle.ad_maps.specs.Ledger.{all_made, line_in}
-use Rattle.ad_maps.specs.Rule.{St, Kept, Mappings, HandStands, Seated, Dealt}
+use Rattle.ad_maps.specs.Ledger.{all_made, line_in, unmaps_in_deeds}
+use Rattle.ad_maps.specs.Rule.{St, Kept, Mappings, HandStands, IsAtRest, Batching, Seated, Dealt}
 use Rattle.ad_maps.specs.Steps.{hand, new_hand, dealing, gathering}
+use Rattle.ad_maps.proofs.Freeings.{batching-plan}
 use Rattle.ad_maps.proofs.MappingFrames.{mappings-stay}
 use Rattle.ad_maps.proofs.Seats.{AllKnow, mover_splits, mover_joins, split_sits, join_sits}
 
@@ -43,6 +44,7 @@ with_seats shape s r views seater dealt back q same know seated dealt_is = recor
     ledger = r.ledger;
     lines = r.lines;
     gives = r.gives;
+    frees = r.frees;
     hands = r.hands;
     seater = seater;
     plan = q;
@@ -53,7 +55,10 @@ with_seats shape s r views seater dealt back q same know seated dealt_is = recor
     mappings = subst (λ (p : Plan). Mappings shape r.state.world.mappings r.places r.ledger p r.gives r.words.current r.words.directory r.words.owner r.words.cell) same
         (mappings-stay shape s r r.plan r.mappings r.plan.rooms r.mappings.rooms dealt r.plan.deeds back);
     owing = r.owing;
-    no_batch = r.no_batch;
+    batching = subst (Batching r.state.owed r.state.batch r.words.member) same (batching-plan r.state.owed r.state.batch r.words.member r.plan (record r.plan { dealt = dealt; back = back }) refl refl refl r.batching);
+    freed = r.freed;
+    tells = record { hand = r.tells.hand; own = ap (λ (p : Plan). p.freeing) (sym same) ∙ r.tells.own; own_gives = ap (λ (p : Plan). p.gives) (sym same) ∙ r.tells.own_gives };
+    unmaps = record { worker = r.unmaps.worker; mover = λ i. ap (λ (p : Plan). unmaps_in_deeds p.deeds i) (sym same) ∙ r.unmaps.mover i };
     ledger_is = r.ledger_is ∙ ap (λ (p : Plan). all_made shape p.deeds) same;
     lines_are = λ i. r.lines_are i ∙ ap (λ (p : Plan). line_in p.deeds i) same;
     each_stance = r.each_stance;
@@ -81,9 +86,9 @@ split_law shape s r id q at inside none =
     (record { slots = k.dealt.slots; few = omega arith; undealt = λ v l. k.dealt.undealt v (omega arith); back = k.dealt.back })
 
 pub join_law : JoinLaw
-join_law shape s r id q other w slot gives acts at apart there next =
+join_law shape s r id q other w slot acts at apart there next =
     let k = seats_known shape s r id q at in
-    let h : Hand = hand slot stance.Away gives acts in
+    let h : Hand = hand slot stance.Away [] acts in
     let theirs = k.know other (Worker w h) there in
     let q' : Plan = gathering q h in
     let long = length-append q.back (h ∷ []) in
@@ -98,7 +103,7 @@ join_law shape s r id q other w slot gives acts at apart there next =
           elim (cases_eq v (length q.back)) [
             | inl e ↦
                 let is : r.hands v ≡ h = ap r.hands (e ∙ sym next) ∙ sym theirs.3 in
-                (ap (λ (g : Hand). g.stance) is, ap (λ (i : ℕ). get_elem? (q.back ++ h ∷ []) i) e ∙ (at_last q.back h (length q.back) refl ∙ ap some (sym is)))
+                (subst IsAtRest (sym is) (record { away = refl; freed = refl; given = refl }), ap (λ (i : ℕ). get_elem? (q.back ++ h ∷ []) i) e ∙ (at_last q.back h (length q.back) refl ∙ ap some (sym is)))
             | inr ne ↦ let b = k.dealt.back v (omega arith) in (b.0, at_longer q.back (h ∷ []) v (r.hands v) b.1)
           ];
     })

@@ -26,16 +26,20 @@ use Rattle.ad_maps.specs.declared.view.Plan.{Plan}
 use Rattle.ad_maps.specs.declared.view.Doing.TheVariants.{Mover}
 use Rattle.ad_maps.specs.Laws.{Adds, SwitchLaw}
 use Rattle.ad_maps.specs.Names.{Current as CurrentWord, wrote}
+use Rattle.ad_maps.specs.Ledger.{unmaps_in_deeds}
 use Rattle.ad_maps.specs.Rule.{St, Kept, AllMappings, IsAs, IsMapped, MappingStands, Mappings, OwnerStands, RegionStands, GiveStands, IsToGive, AreAll, CurrentStands}
 use Rattle.ad_maps.specs.Steps.{made, but}
-use Rattle.ad_maps.proofs.Elements.{but-from, but-to, lines-push}
+use Rattle.ad_maps.proofs.Elements.{but-from, but-to, lines-push, retires-same}
+use Rattle.ad_maps.proofs.Batches.{freed-same}
 use Rattle.ad_maps.proofs.Frames.{mover_step}
+use Rattle.ad_maps.proofs.Freeings.{switch-brings, batching-plan}
 use Rattle.ad_maps.proofs.Hands.{hand_stays}
 use Rattle.ad_maps.proofs.Pinned.{gone-or}
 use Rattle.ad_maps.proofs.Machine.{reached_after, lawful_of}
 use Rattle.ad_maps.proofs.MappingFrames.{mapped-says, MoverKnows, mover_knows, ledger-same, one-current}
 use Rattle.ad_maps.proofs.ReadLaw.{CurrentKnown, current_known}
 use Rattle.ad_maps.proofs.Writes.{writes}
+use Rattle.ad_maps.proofs.Telling.{deeds-more, told-quiet}
 
 -- ---- what becomes of a mapping
 
@@ -175,14 +179,14 @@ module _ (shape : Shape) (s : St) (r : Kept shape s) (q : Plan) (g : Made)
   each_region' : (v : ℕ) → RegionStands ms' r.places r.words.directory v
   each_region' v has = let was = k.each_region v has in let on = keeps was.0 was.1 was.2 in (was.0, mapping_of was.1.module on.0, on.1, was.3)
 
-  each_owner' : (f : ℕ) → OwnerStands ms' r.places (IsToGive r.gives q.gives) q.stage f (r.words.owner f)
+  each_owner' : (f : ℕ) → OwnerStands ms' r.places (IsToGive r.gives) q.stage f (r.words.owner f)
   each_owner' f = ⊎_elim inl
       (λ d. ⊎_elim
       (λ t. let on = keeps (r.words.owner f) t.0 t.1 in inr (inl (mapping_of t.0.module on.0, on.1, ⊎_elim (λ e z. t.2 (e ∙ z)) (λ z. z) on.2, t.3)))
       (λ d. inr (inr d)) d)
       (k.each_owner f)
 
-  each_give' : (p : Place) → IsToGive r.gives q.gives p → GiveStands ms' r.places r.words.owner p
+  each_give' : (p : Place) → IsToGive r.gives p → GiveStands ms' r.places r.words.owner p
   each_give' p c = let was = k.each_give p c in record { «module» = was.module; gone = stays (made was.module p) Gone (λ z. let f : ⊥ = cc in f) (λ z. let f : ⊥ = cc in f) was.gone; owns = was.owns }
 
   fresh' : AreAll ms' r.places (but n q.fresh) Fresh
@@ -270,9 +274,12 @@ switch_law shape s r id q g at fresh above =
         (ap (λ (p : Plan). p.slots) k.is) (ap (λ (p : Plan). p.dealt) k.is) (ap (λ (p : Plan). p.back) k.is)
         (writes s.words r.words (CurrentWord m) (packed g.place) (let l : m < 8 = omega arith in l) r.reads)
         (reached_after shape r.state x r.reached may)
+        (told-quiet shape r.state r.reached machine.Mover x may (unmaps_in_deeds r.plan.deeds) (unmaps_in_deeds q'.deeds) (λ c n. refl) (deeds-more q r.plan (deed.Switch m g.place) k.is (λ i. refl)))
         (mappings' shape s r q g k.mappings is_fresh old known low)
         r.owing
-        (record { unopened = r.no_batch.unopened; unlisted = r.no_batch.unlisted })
+        (batching-plan r.state.owed r.state.batch r.words.member q q' refl refl (retires-same q.deeds (deed.Switch m g.place) refl) k.batching)
+        (freed-same shape s r x may (switch-brings r.state m n))
+        (ap (λ (p : Plan). p.freeing) k.is) (ap (λ (p : Plan). p.gives) k.is)
         (k.ledger_is ∙ sym (ledger-same shape q.deeds (deed.Switch m g.place) refl))
         (λ i. k.lines_are i ∙ sym (lines-push q.deeds (deed.Switch m g.place) (λ i. refl) i))
         (λ v. refl)

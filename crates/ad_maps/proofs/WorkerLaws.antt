@@ -26,14 +26,17 @@ use Rattle.ad_maps.specs.declared.view.Stance.TheVariants as stance
 use Rattle.ad_maps.specs.declared.view.Hand.{Hand}
 use Rattle.ad_maps.specs.declared.view.Doing.TheVariants.{Worker}
 use Rattle.ad_maps.specs.Names.{Slot, wrote}
-use Rattle.ad_maps.specs.Ledger.{reads_of}
+use Rattle.ad_maps.specs.Ledger.{act_unmaps, reads_of, unmaps_in_acts}
 use Rattle.ad_maps.specs.Laws.{Stays, EnterLaw, PageLaw, CellLaw, LeaveLaw}
 use Rattle.ad_maps.specs.Rule.{St, Kept, Owing, StanceStands, seat_of}
 use Rattle.ad_maps.specs.Steps.{hand, left_with}
+use Rattle.ad_maps.proofs.Batches.{batching-worker, few-batches, freed-same}
 use Rattle.ad_maps.proofs.Frames.{worker_knows, worker_step}
+use Rattle.ad_maps.proofs.Freeings.{enter-brings, leave-brings}
 use Rattle.ad_maps.proofs.Hands.{hand_stays, own_act}
 use Rattle.ad_maps.proofs.Machine.{holds_of, reached_after, lawful_of}
 use Rattle.ad_maps.proofs.Writes.{writes, rereads}
+use Rattle.ad_maps.proofs.Telling.{count-same, told-none, told-quiet}
 
 -- ---- a slot's word
 
@@ -62,7 +65,7 @@ slot_known shape s r w slot is =
       inside = inside;
       word = word;
       pushed = ap (λ (n : ℕ). n / 2 ^ 32) word ∙ word-high r.state.owed h slot inside;
-      fits = (words_fit r.state.owed h).words (let none = r.no_batch.unopened in omega arith) slot inside;
+      fits = (words_fit r.state.owed h).words (let most = few-batches shape s r in omega arith) slot inside;
     }
 
 -- the half of the rule that concerns owing, where a slot's word has changed as the machine's slot has, and no batch has
@@ -81,7 +84,9 @@ slot_changed shape s r owed slot x slots seats batches last here else = record {
   no_count = λ b l. r.owing.no_count b (omega arith);
   each_listed = r.owing.each_listed;
   each_member = r.owing.each_member;
+  once = r.owing.once;
   each_line = r.owing.each_line;
+  some_line = r.owing.some_line;
 }
 
 -- ---- enter
@@ -100,15 +105,18 @@ enter_law shape s r id w slot gives acts at =
     let found = get_or s.words slot 0 in
     let n : ℕ = (found + 1) % 2 ^ 64 in
     let next = enter-word owed w slot may in
-    let fits = (words_fit j.owed (holds_of shape r.form j (reached_after shape r.state x r.reached may)).owed).words (let none = r.no_batch.unopened in omega arith) slot (let l = slots-after owed (owing.Enter w slot) may in let a = t.inside in omega arith) in
+    let fits = (words_fit j.owed (holds_of shape r.form j (reached_after shape r.state x r.reached may)).owed).words (let most = few-batches shape s r in omega arith) slot (let l = slots-after owed (owing.Enter w slot) may in let a = t.inside in omega arith) in
     let word : n ≡ slot_word j.owed slot = added found (slot_word owed slot) (slot_word j.owed slot) t.word next fits in
     let h' : Hand = hand slot (stance.Entered (found / 2 ^ 32)) gives (acts ++ act.Enter ∷ []) in
     let step = worker_step shape s r id w h h' at (set s.words slot n) (wrote r.words (Slot slot) n) j
     (writes s.words r.words (Slot slot) n t.few r.reads)
     (reached_after shape r.state x r.reached may)
+    (told-quiet shape r.state r.reached (machine.Worker w) x may (unmaps_in_acts acts) (unmaps_in_acts (acts ++ act.Enter ∷ [])) (λ c n. refl) (λ n. count-same (act_unmaps n) acts act.Enter refl))
     r.mappings
     (slot_changed shape s r j.owed slot n (slots-after owed (owing.Enter w slot) may) (seats-after owed (owing.Enter w slot) may) (λ b. refl) refl word (λ u ne. enter-word_other owed w slot may u ne))
-    (record { unopened = r.no_batch.unopened; unlisted = r.no_batch.unlisted })
+    (batching-worker shape s r x may (λ e. let f : ⊥ = cc in f) (slots-after owed (owing.Enter w slot) may))
+    (freed-same shape s r x may (enter-brings r.state w slot))
+    refl
     (enter-seat owed w slot may w refl ∙ λ i. owing.Inside (k.hand.slot i) (sym t.pushed i))
     (λ v ne. enter-seat_other owed w slot may v ne)
     (own_act shape r.state.world j.world r.places r.ledger r.plan.current r.gives w slot stance.Away (stance.Entered (found / 2 ^ 32)) gives acts act.Enter (λ m. refl) (λ m p e. let f : ⊥ = cc in f) (enter-here r.state.world w w refl) k.hand)
@@ -120,11 +128,11 @@ enter_law shape s r id w slot gives acts at =
 -- ---- leave
 
 -- a seat that leaves is to pay what the machine says
-leaves-seat : (slot entry pushed : ℕ) → to_pay slot entry pushed ≡ seat_of slot (left_with entry pushed)
+pub leaves-seat : (slot entry pushed : ℕ) → to_pay slot entry pushed ≡ seat_of slot (left_with entry pushed)
 leaves-seat slot entry pushed = elim (nat_lt entry pushed) as (λ (b : Bool). cond b (owing.Paying slot entry pushed) owing.Away ≡ seat_of slot (cond b (stance.Paying entry pushed) stance.Away)) [ true ↦ refl | false ↦ refl ]
 
 -- nothing is asked of the world of one that has left
-leaves-stands : (world : EventWorld) (places : ℕ → Place) (w entry pushed : ℕ) → StanceStands world places w (left_with entry pushed)
+pub leaves-stands : (world : EventWorld) (places : ℕ → Place) (w entry pushed : ℕ) → StanceStands world places w (left_with entry pushed)
 leaves-stands world places w entry pushed = elim (nat_lt entry pushed) as (λ (b : Bool). StanceStands world places w (cond b (stance.Paying entry pushed) stance.Away)) [ true ↦ tt | false ↦ tt ]
 
 pub leave_law : LeaveLaw
@@ -150,9 +158,12 @@ leave_law shape s r id w slot entry m p gives acts at =
     let step = worker_step shape s r id w h h' at (set s.words slot n) (wrote r.words (Slot slot) n) j
     (writes s.words r.words (Slot slot) n t.few r.reads)
     (reached_after shape r.state x r.reached may)
+    (told-quiet shape r.state r.reached (machine.Worker w) x may (unmaps_in_acts acts) (unmaps_in_acts (acts ++ act.Leave ∷ [])) (λ c n. refl) (λ n. count-same (act_unmaps n) acts act.Leave refl))
     r.mappings
     (slot_changed shape s r j.owed slot n (slots-after owed (owing.Leave w) inside) (seats-after owed (owing.Leave w) inside) same (let l = last in omega arith) word (λ u ne. leave-word_other owed w slot entry is u ne))
-    (record { unopened = (let l = last in let none = r.no_batch.unopened in omega arith); unlisted = r.no_batch.unlisted })
+    (batching-worker shape s r x may (λ e. let f : ⊥ = cc in f) (slots-after owed (owing.Leave w) inside))
+    (freed-same shape s r x may (leave-brings r.state w))
+    refl
     (leave-seat owed w slot entry is w refl ∙ (ap (to_pay slot entry) (sym t.pushed) ∙ (leaves-seat slot entry (found / 2 ^ 32) ∙ ap (λ (u : ℕ). seat_of u d) k.hand.slot)))
     (λ v ne. leave-seat_other owed w slot entry is v ne)
     (own_act shape r.state.world j.world r.places r.ledger r.plan.current r.gives w slot (stance.Inside entry m p) d gives acts act.Leave (λ m. refl) (λ m p e. let f : ⊥ = cc in f) (leaves-stands j.world r.places w entry (found / 2 ^ 32)) k.hand)
@@ -165,19 +176,21 @@ leave_law shape s r id w slot entry m p gives acts at =
 
 -- a worker loads a word, and is where it was
 pub loads : (shape : Shape) (s : St) (r : Kept shape s) (id w slot : ℕ) (d : Stance) (gives : List Place) (acts : List Act) (i : ℕ) (a : Act)
-    → ((m : ℕ) → reads_of m (a ∷ []) ≡ []) → ((m : ℕ) (p : Place) → a ≡ act.Read m p → ⊥)
+    → ((m : ℕ) → reads_of m (a ∷ []) ≡ []) → ((m : ℕ) (p : Place) → a ≡ act.Read m p → ⊥) → ((n : ℕ) → act_unmaps n a ≡ false)
     → get_elem? s.views id ≡ some (Worker w (hand slot d gives acts))
     → Stays shape s r (record { words = set s.words i (get_or s.words i 0); homes = s.homes; views = set s.views id (Worker w (hand slot d gives (acts ++ a ∷ []))) })
-loads shape s r id w slot d gives acts i a none other at =
+loads shape s r id w slot d gives acts i a none other quiet at =
     let h : Hand = hand slot d gives acts in
     let k = worker_knows shape s r id w h at in
     let step = worker_step shape s r id w h (hand slot d gives (acts ++ a ∷ [])) at (set s.words i (get_or s.words i 0)) r.words r.state
-    (rereads s.words r.words i r.reads) r.reached r.mappings r.owing r.no_batch k.seat (λ v ne. refl)
+    (rereads s.words r.words i r.reads) r.reached
+    (told-none (machine.Worker w) r.reached.past (unmaps_in_acts acts) (unmaps_in_acts (acts ++ a ∷ [])) (λ n. count-same (act_unmaps n) acts a (quiet n)))
+    r.mappings r.owing r.batching r.freed refl k.seat (λ v ne. refl)
     (own_act shape r.state.world r.state.world r.places r.ledger r.plan.current r.gives w slot d d gives acts a none other k.hand.stance k.hand)
     (λ v ne old. old) in record { kept = step.kept; state = step.state }
 
 pub page_law : PageLaw
-page_law shape s r id w slot entry m p gives acts va at low = loads shape s r id w slot (stance.Inside entry m p) gives acts (24 + va / 262144) (act.Page va) (λ m. refl) (λ m p e. let f : ⊥ = cc in f) at
+page_law shape s r id w slot entry m p gives acts va at low = loads shape s r id w slot (stance.Inside entry m p) gives acts (24 + va / 262144) (act.Page va) (λ m. refl) (λ m p e. let f : ⊥ = cc in f) (λ n. refl) at
 
 pub cell_law : CellLaw
-cell_law shape s r id w slot entry m p gives acts e at low = loads shape s r id w slot (stance.Inside entry m p) gives acts (65688 + (512 * p.frame + e)) (act.Cell e) (λ m. refl) (λ m p e. let f : ⊥ = cc in f) at
+cell_law shape s r id w slot entry m p gives acts e at low = loads shape s r id w slot (stance.Inside entry m p) gives acts (65688 + (512 * p.frame + e)) (act.Cell e) (λ m. refl) (λ m p e. let f : ⊥ = cc in f) (λ n. refl) at

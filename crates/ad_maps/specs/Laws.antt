@@ -1,6 +1,6 @@
 -- The laws of the steps: made under its own conditions from any words and views that meet the rule, a step keeps the
 -- rule, and the machine's state changes by the step it stands for.
-use Rattle.std.specs.Prelude.{◌≡◌, ◌≢◌, ℕ, ◌+◌, ◌-◌, ◌/◌, ◌%◌, ◌^◌, ◌<◌, List, [], ◌∷◌, ◌++◌, length, slice_index, slice_set, Contains}
+use Rattle.std.specs.Prelude.{◌≡◌, ◌≢◌, ℕ, ◌+◌, ◌*◌, ◌-◌, ◌/◌, ◌%◌, ◌^◌, ◌<◌, List, [], ◌∷◌, ◌++◌, length, slice_index, slice_set, Contains}
 use mathlib.Core.Option.{some}
 use lib.ListN.{get_elem?}
 use Rattle.atomic_table.specs.Table.{keeps, stepped}
@@ -10,20 +10,23 @@ use Rattle.ad_base.specs.Place.{base_of, packed, IsPlace, place_at}
 use Rattle.ad_events.specs.Reclaim as machine
 use Rattle.ad_events.specs.ReclaimLaws.{LawfulIfSome}
 use Rattle.ad_maps.specs.declared.shape.Shape.{Shape}
-use Rattle.ad_maps.specs.declared.words.TheConstants.{CELLS, FRAME_WORDS}
+use Rattle.ad_maps.specs.declared.words.TheConstants.{CELLS, FRAME_WORDS, MEMBERS}
 use Rattle.ad_maps.specs.declared.view.Act.{Act}
 use Rattle.ad_maps.specs.declared.view.Act.TheVariants as act
 use Rattle.ad_maps.specs.declared.view.Stance.TheVariants as stance
 use Rattle.ad_maps.specs.declared.view.Made.{Made}
 use Rattle.ad_maps.specs.declared.view.Stage.TheVariants as stage
+use Rattle.ad_maps.specs.declared.view.Freeing.TheVariants as freeing
+use Rattle.ad_maps.specs.declared.view.Passing.{Passing}
+use Rattle.ad_maps.specs.declared.view.Passing.TheVariants as passing
 use Rattle.ad_maps.specs.declared.view.Plan.{Plan}
 use Rattle.ad_maps.specs.declared.view.Doing.{Doing}
 use Rattle.ad_maps.specs.declared.view.Doing.TheVariants.{Spent, Worker, Mover}
-use Rattle.ad_maps.specs.Names.{Name, Slot, Current, Directory, Owner, Cell, index}
-use Rattle.ad_maps.specs.MapPlace.{cell_word, cells_of, IsPlaceOf}
+use Rattle.ad_maps.specs.Names.{Name, Slot, Current, Directory, Owner, Cell, Count, Member, index}
+use Rattle.ad_maps.specs.MapPlace.{cell_word, cells_of, member_word, IsPlaceOf}
 use Rattle.ad_maps.specs.Ledger.{all_made}
 use Rattle.ad_maps.specs.Rule.{St, Kept}
-use Rattle.ad_maps.specs.Steps.{hand, new_hand, after_enter, after_read, after_act, after_leave, after_look, after_take, after_fill, after_map, after_switch, dealing, gathering}
+use Rattle.ad_maps.specs.Steps.{agent_of, freeing_of, gives_of, hand, new_hand, settles, after_enter, after_read, after_act, after_leave, after_pay, after_member, after_unmap, after_give, after_look, after_take, after_fill, after_map, after_switch, after_list, after_open, after_push, after_settle, dealing, gathering}
 
 module _ (shape : Shape) where
   -- the step keeps the rule, and it stands for this step of the joined machine, which might be made there and whose event is lawful
@@ -86,6 +89,38 @@ LeaveLaw = (shape : Shape) (s : St) (r : Kept shape s) (id w slot entry m : ℕ)
     get_elem? s.views id ≡ some view
     → Adds shape s r (moved s id (Slot slot) (λ n. (n + (2 ^ 64 - 1)) % 2 ^ 64) (after_leave view (found_in s (Slot slot)))) (machine.Leave w)
 
+-- a worker that has left, and hasn't paid all that it owes, takes one from the count of the first batch that it still owes
+abbrev pub PayLaw : Type 0
+PayLaw = (shape : Shape) (s : St) (r : Kept shape s) (id w slot paid last : ℕ) (gives : List Place) (acts : List Act)
+    → let view : Doing = Worker w (hand slot (stance.Paying paid last) gives acts) in
+    get_elem? s.views id ≡ some view
+    → let name = Count (paid + 1) in
+    Adds shape s r (moved s id name (λ n. (n + (2 ^ 64 - 1)) % 2 ^ 64) (after_pay view (found_in s name))) (machine.Pay w)
+
+-- ---- the steps of who frees a batch, a worker or the mover
+
+-- it loads the word of a member of its batch
+abbrev pub MemberLaw : Type 0
+MemberLaw = (shape : Shape) (s : St) (r : Kept shape s) (id : ℕ) (view : Doing) (b k : ℕ)
+    → get_elem? s.views id ≡ some view → freeing_of view ≡ freeing.Batch b k
+    → let name = Member b k in
+    Stays shape s r (moved s id name (λ n. n) (after_member view (found_in s name)))
+
+-- it adds one unmap step to the directory's word of the member's region: it has unmapped the mapping whose place it finds
+abbrev pub UnmapLaw : Type 0
+UnmapLaw = (shape : Shape) (s : St) (r : Kept shape s) (id : ℕ) (view : Doing) (b k word : ℕ)
+    → get_elem? s.views id ≡ some view → freeing_of view ≡ freeing.Found b k word → gives_of view ≡ []
+    → let name = Directory (word % 2 ^ 16) in
+    let found = found_in s name in
+    Adds shape s r (moved s id name (λ n. (n + 2 ^ 56) % 2 ^ 64) (after_unmap view found)) (machine.Unmap (place_at found).mapping (agent_of view))
+
+-- it gives the frame back of the mapping that it unmapped
+abbrev pub GiveLaw : Type 0
+GiveLaw = (shape : Shape) (s : St) (r : Kept shape s) (id : ℕ) (view : Doing) (p : Place)
+    → get_elem? s.views id ≡ some view → gives_of view ≡ p ∷ []
+    → let name = Owner p.frame in
+    Stays shape s r (moved s id name (λ _. 0) (after_give view (found_in s name)))
+
 -- ---- the mover's steps
 
 -- the mover looks at the owner of a frame
@@ -130,6 +165,41 @@ SwitchLaw = (shape : Shape) (s : St) (r : Kept shape s) (id : ℕ) (q : Plan) (g
     → let name = Current g.of_module in
     Adds shape s r (moved s id name (λ _. packed g.place) (after_switch g (Mover q) (found_in s name))) (machine.Switch g.of_module g.place.mapping)
 
+-- the mover's next batch has k members, and one more may be listed
+abbrev pub MayList : Passing → ℕ → Type 0
+MayList passing.Rest k = k ≡ 0
+MayList (passing.Listing n) k = n ≡ k
+MayList (passing.Settled s) k = ⊥
+MayList (passing.Pushed s found) k = ⊥
+
+-- the mover lists a mapping that is out in its next batch, under a line: it has retired it
+abbrev pub ListLaw : Type 0
+ListLaw = (shape : Shape) (s : St) (r : Kept shape s) (id : ℕ) (q : Plan) (g : Made) (line k : ℕ)
+    → get_elem? s.views id ≡ some (Mover q) → MayList q.passing k → k < MEMBERS → Contains q.outs g → 0 < line
+    → let name = Member (q.batches + 1) k in
+    Adds shape s r (moved s id name (λ _. member_word line g.place.region) (after_list g line (Mover q) (found_in s name))) (machine.Retire g.place.mapping)
+
+-- the mover opens the batch that it has listed: its count says that it isn't pushed on any slot
+abbrev pub OpenLaw : Type 0
+OpenLaw = (shape : Shape) (s : St) (r : Kept shape s) (id : ℕ) (q : Plan) (k : ℕ)
+    → get_elem? s.views id ≡ some (Mover q) → q.passing ≡ passing.Listing k
+    → let name = Count (q.batches + 1) in
+    Adds shape s r (moved s id name (λ _. shape.slots * 2 ^ 32) (after_open (Mover q) (found_in s name))) machine.Open
+
+-- the mover pushes the batch on the next slot, and finds how many are inside
+abbrev pub PushLaw : Type 0
+PushLaw = (shape : Shape) (s : St) (r : Kept shape s) (id : ℕ) (q : Plan) (slot : ℕ)
+    → get_elem? s.views id ≡ some (Mover q) → q.passing ≡ passing.Settled slot
+    → let name = Slot slot in
+    Adds shape s r (moved s id name (λ n. (n + 2 ^ 32) % 2 ^ 64) (after_push (Mover q) (found_in s name))) (machine.Push slot)
+
+-- the mover settles the slot on which it pushed the batch: those that it found inside are to pay, and nobody else
+abbrev pub SettleLaw : Type 0
+SettleLaw = (shape : Shape) (s : St) (r : Kept shape s) (id : ℕ) (q : Plan) (slot inside : ℕ)
+    → get_elem? s.views id ≡ some (Mover q) → q.passing ≡ passing.Pushed slot inside → q.freeing ≡ freeing.Nothing
+    → let name = Count q.batches in
+    Adds shape s r (moved s id name (λ n. (n + (2 ^ 64 - settles inside)) % 2 ^ 64) (after_settle (Mover q) (found_in s name))) (machine.Settle slot)
+
 -- ---- splitting and joining
 
 -- the seat of the next worker is split off the mover's
@@ -139,8 +209,8 @@ SplitLaw = (shape : Shape) (s : St) (r : Kept shape s) (id : ℕ) (q : Plan) →
 
 -- the seat of the next worker, away, is joined to the mover's
 abbrev pub JoinLaw : Type 0
-JoinLaw = (shape : Shape) (s : St) (r : Kept shape s) (id : ℕ) (q : Plan) (other w slot : ℕ) (gives : List Place) (acts : List Act)
-    → let h = hand slot stance.Away gives acts in
+JoinLaw = (shape : Shape) (s : St) (r : Kept shape s) (id : ℕ) (q : Plan) (other w slot : ℕ) (acts : List Act)
+    → let h = hand slot stance.Away [] acts in
     get_elem? s.views id ≡ some (Mover q) → ¬ (other ≡ id) → get_elem? s.views other ≡ some (Worker w h) → w ≡ length q.back
     → Stays shape s r (record { words = s.words; homes = s.homes; views = slice_set (slice_set s.views id (Mover (gathering q h))) other Spent })
 

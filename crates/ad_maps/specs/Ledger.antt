@@ -1,5 +1,5 @@
 -- The mappings that were made, and what a seat's list of steps tells.
-use Rattle.std.specs.Prelude.{ℕ, ◌+◌, ◌≤◌, ◌==◌, List, [], ◌∷◌, ◌++◌, AllPairs, if◌then◌else◌}
+use Rattle.std.specs.Prelude.{ℕ, Bool, false, count_by, ◌+◌, ◌≤◌, ◌==◌, List, [], ◌∷◌, ◌++◌, AllPairs, if◌then◌else◌}
 use Rattle.ad_maps.specs.declared.shape.Opening.{Opening}
 use Rattle.ad_maps.specs.declared.shape.Shape.{Shape}
 use Rattle.ad_maps.specs.declared.view.Act.{Act}
@@ -49,3 +49,38 @@ reads_of m (act.Unmap n ∷ acts) = reads_of m acts
 -- the numbers never fall
 abbrev pub NeverFall : List ℕ → Type 0
 NeverFall ns = AllPairs (λ (x y : ℕ). x ≤ y) ns
+
+-- the numbers of the mappings that were retired, in order
+abbrev pub retires_in : List Deed → List ℕ
+retires_in [] = []
+retires_in (deed.Look f o ∷ ds) = retires_in ds
+retires_in (deed.Map m p ∷ ds) = retires_in ds
+retires_in (deed.Switch m p ∷ ds) = retires_in ds
+retires_in (deed.Retire k line ∷ ds) = k ∷ retires_in ds
+retires_in (deed.Unmap k ∷ ds) = retires_in ds
+
+-- ---- unmaps
+
+-- the act of a worker's seat is an unmap of the mapping of number n
+abbrev pub act_unmaps : ℕ → Act → Bool
+act_unmaps n act.Enter = false
+act_unmaps n (act.Read m p) = false
+act_unmaps n (act.Page va) = false
+act_unmaps n (act.Cell e) = false
+act_unmaps n act.Leave = false
+act_unmaps n (act.Unmap k) = k == n
+
+-- the deed of the mover's seat is one
+abbrev pub deed_unmaps : ℕ → Deed → Bool
+deed_unmaps n (deed.Look f o) = false
+deed_unmaps n (deed.Map m p) = false
+deed_unmaps n (deed.Switch m p) = false
+deed_unmaps n (deed.Retire k line) = false
+deed_unmaps n (deed.Unmap k) = k == n
+
+-- so many unmaps of each mapping a list tells
+abbrev pub unmaps_in_acts : List Act → ℕ → ℕ
+unmaps_in_acts acts n = count_by (act_unmaps n) acts
+
+abbrev pub unmaps_in_deeds : List Deed → ℕ → ℕ
+unmaps_in_deeds deeds n = count_by (deed_unmaps n) deeds

@@ -8,3 +8,4 @@ pub mod Seen
 pub mod Rows
 pub mod Private
 pub mod Reading
+pub mod Owing

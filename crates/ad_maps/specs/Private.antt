@@ -3,3 +3,4 @@ pub mod Handles
 pub mod Laid
 pub mod Numbered
 pub mod Tells
+pub mod Trials

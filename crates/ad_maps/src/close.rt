@@ -1,22 +1,23 @@
 //! The mapping table is closed.
 
-ghost use Rattle.std.specs.Prelude.{◌≡◌, ◌<◌, [], length, vec_len, All, IfOk};
+ghost use Rattle.std.specs.Prelude.{◌≡◌, ◌*◌, ◌<◌, [], length, vec_len, All, IfOk};
 ghost use Rattle.std.specs.Mem.Slots.{slots_items, slots_len, IsFull};
+ghost use Rattle.ad_maps.specs.declared.view.Freeing.TheVariants as freeing;
+ghost use Rattle.ad_maps.specs.declared.view.Passing.TheVariants as passing;
 ghost use Rattle.ad_maps.specs.Ledger.{all_made};
-ghost use Rattle.ad_maps.specs.Rows.{AreAllSeats, AreInOrder, AreRowsOf, HaveReadRows, HaveRowOfEach};
+ghost use Rattle.ad_maps.specs.Rows.{AreAllSeats, AreInOrder, AreRowsOf, HaveReadRows, HaveRowOfEach, HaveUnmappedRows, HaveUnmapsTold};
 ghost use Rattle.ad_maps.specs.Private.Handles.{plan_of, IsAt, IsMover};
-ghost use Rattle.ad_maps.specs.Private.Numbered.{place_in, row_at, AreClosedRows, AreNumbered, AreRowsBelow, HasBack, HasPlace, IsByNumber, IsDirectory, SayRows};
+ghost use Rattle.ad_maps.specs.Private.Numbered.{place_in, row_at, AreClosedRows, AreLined, AreMembers, AreNumbered, AreRowsBelow, HasBack, HasPlace, IsByNumber, IsDirectory, SayLinedRows};
 
 use crate::maps::{Maps, MoverSeat, Seat};
 use crate::table::{ClosedTable, Gather, MapTable, TableSeat};
-use crate::words::{DIRECTORY_BASE, NUMBERS, REGION_WORDS, WORDS};
+use crate::words::{
+    DIRECTORY_BASE, MEMBER_BASE, MEMBERS, NUMBERS, ONE_LINE, ONE_UNMAP, REGION_WORDS, WORDS,
+};
 use ad_base::{Kind, OutOfMemory, Place, Row, zero_words};
 use std::alloc::Global;
 use std::marker::Model;
 use std::snapshot::Snapshot;
-
-/// One unmap step, in a directory word.
-const ONE_UNMAP: u64 = 1 << 56;
 
 /// A table that was closed. Contracts see its rows, and the seats that it was closed with.
 #[derive(Drop)]
@@ -58,13 +59,23 @@ impl Maps {
         ensures each_row { IfOk result (λ closed. AreRowsOf (all_made self.shape mover.deeds) mover.deeds closed.rows) }
         ensures in_order { IfOk result (λ closed. AreInOrder closed.rows) }
         ensures reads { IfOk result (λ closed. HaveReadRows closed.rows seats.items) }
+        ensures unmaps { IfOk result (λ closed. HaveUnmapsTold closed.rows mover.deeds seats.items) }
+        ensures unmapped { IfOk result (λ closed. HaveUnmappedRows closed.rows mover.deeds seats.items) }
         ensures mover { IfOk result (λ closed. closed.mover ≡ mover) }
         ensures seats { IfOk result (λ closed. closed.seats ≡ seats.items) }
     {
-        let Maps { table, frames } = self;
+        let Maps {
+            table,
+            frames,
+            slots: _,
+        } = self;
         let told_mover = Snapshot::of(&mover);
         let told_seats = Snapshot::of(&seats);
-        let MoverSeat { seat } = mover;
+        let MoverSeat {
+            seat,
+            slots: _,
+            batches: _,
+        } = mover;
         let rows = ended(alloc, table, frames, seat, seats)?;
         Ok(Closed {
             rows,
@@ -87,8 +98,11 @@ fn ended(
     requires frames { frames ≡ table.shared.key.frames }
     requires some_frames { 0 < frames }
     requires mover { IsMover mover.me }
+    requires rest { (plan_of mover.me.0).passing ≡ passing.Rest }
+    requires freed { (plan_of mover.me.0).freeing ≡ freeing.Nothing }
     requires none { (plan_of mover.me.0).back ≡ [] }
     requires seats { AreAllSeats table.shared.table_id (length seats.items) seats.items }
+    requires workers { length seats.items ≡ table.shared.key.workers }
     ensures { IfOk result (λ rows. AreClosedRows table.shared.key (plan_of mover.me.0).deeds seats.items rows.items) }
 {
     let mut mover = mover;
@@ -119,11 +133,32 @@ fn rows_of(alloc: Global, words: &ClosedTable, frames: u64) -> Result<Vec<Row>, 
     requires words { slots_len words.now.words ≡ WORDS }
     requires full { IsFull words.now.words }
     requires directory { IsDirectory (slots_items words.now.words) }
+    requires members { AreMembers (slots_items words.now.words) }
     requires frames { 0 < frames }
-    ensures { IfOk result (λ rows. SayRows frames (slots_items words.now.words) rows.items) }
+    ensures { IfOk result (λ rows. SayLinedRows frames (slots_items words.now.words) rows.items) }
 {
     let numbered = numbered(alloc, words)?;
-    rows_below(alloc, numbered.as_slice(), frames)
+    let lines = lined(alloc, words)?;
+    rows_below(alloc, numbered.as_slice(), lines.as_slice(), frames)
+}
+
+/// The lines of the members, each at the region of its mapping.
+fn lined(alloc: Global, words: &ClosedTable) -> Result<Vec<u64>, OutOfMemory>
+    requires words { slots_len words.now.words ≡ WORDS }
+    requires full { IsFull words.now.words }
+    requires members { AreMembers (slots_items words.now.words) }
+    ensures { IfOk result (λ lines. AreLined (slots_items words.now.words) (NUMBERS * MEMBERS) lines.items) }
+{
+    let mut lines = zero_words(alloc, REGION_WORDS)?;
+    for index in 0..NUMBERS * MEMBERS {
+        let word = words.word(MEMBER_BASE + index);
+        if word == 0 {
+            continue;
+        }
+        let region = (word % ONE_LINE) as usize;
+        lines[region] = word / ONE_LINE;
+    }
+    Ok(lines)
 }
 
 /// The directory's words, each at the number of its mapping.
@@ -144,11 +179,17 @@ fn numbered(alloc: Global, words: &ClosedTable) -> Result<Vec<u64>, OutOfMemory>
     Ok(numbered)
 }
 
-/// The rows of the words that aren't 0.
-fn rows_below(alloc: Global, numbered: &[u64], frames: u64) -> Result<Vec<Row>, OutOfMemory>
+/// The rows of the words that aren't 0, with the lines of their regions.
+fn rows_below(
+    alloc: Global,
+    numbered: &[u64],
+    lines: &[u64],
+    frames: u64,
+) -> Result<Vec<Row>, OutOfMemory>
     requires numbered { IsByNumber numbered.now }
+    requires lines { length lines.now ≡ REGION_WORDS }
     requires frames { 0 < frames }
-    ensures { IfOk result (λ rows. AreRowsBelow frames numbered.now NUMBERS rows.items) }
+    ensures { IfOk result (λ rows. AreRowsBelow frames lines.now numbered.now NUMBERS rows.items) }
 {
     let mut rows = Vec::new(alloc);
     for number in 0..NUMBERS {
@@ -156,16 +197,17 @@ fn rows_below(alloc: Global, numbered: &[u64], frames: u64) -> Result<Vec<Row>, 
         if word == 0 {
             continue;
         }
-        rows.push(row_of(word, frames))?;
+        rows.push(row_of(word, lines, frames))?;
     }
     Ok(rows)
 }
 
-/// The row of a directory word.
-fn row_of(word: u64, frames: u64) -> Row
+/// The row of a directory word, with the line of its region.
+fn row_of(word: u64, lines: &[u64], frames: u64) -> Row
     requires place { HasPlace word }
+    requires lines { length lines.now ≡ REGION_WORDS }
     requires frames { 0 < frames }
-    ensures { result ≡ row_at frames word }
+    ensures { result ≡ row_at frames lines.now word }
 {
     let place = place_of(word);
     Row {
@@ -173,7 +215,7 @@ fn row_of(word: u64, frames: u64) -> Row
         kind: Kind::Code,
         who: u64::from(place.frame) / frames,
         place,
-        line: 0,
+        line: lines[usize::from(place.region)],
         unmaps: word / ONE_UNMAP,
     }
 }

@@ -1,6 +1,7 @@
 //! The laws of the steps. Each function makes no call: its contract is the law.
 
-ghost use Rattle.ad_maps.specs.Laws.{EnterLaw, ReadLaw, PageLaw, CellLaw, LeaveLaw, LookLaw, TakeLaw, FillLaw, MapLaw, SwitchLaw, SplitLaw, JoinLaw, OwnPagesLaw, OwnCellsLaw};
+ghost use Rattle.ad_maps.specs.Laws.{EnterLaw, ReadLaw, PageLaw, CellLaw, LeaveLaw, PayLaw, MemberLaw, UnmapLaw, GiveLaw, LookLaw, TakeLaw, FillLaw, MapLaw, SwitchLaw, ListLaw, OpenLaw, PushLaw, SettleLaw, SplitLaw, JoinLaw, OwnPagesLaw, OwnCellsLaw};
+ghost use Rattle.ad_maps.specs.Owing.{CountsLaw, MoverOwesNothingLaw, PinnedLaw, QuietLaw, WorkerOwesNothingLaw};
 ghost use Rattle.ad_maps.specs.Reading.{ReadingLaw};
 
 /// To enter is lawful, keeps the rule, and is the event `Enter`.
@@ -28,13 +29,30 @@ pub fn law_switch()
     ensures { SwitchLaw }
 {}
 
-/// Every other step keeps the rule, and is no event: the state stays as it was.
+/// The mover's list is lawful, keeps the rule, and is the event `Retire`.
+pub fn law_list()
+    ensures { ListLaw }
+{}
+
+/// To unmap is lawful, by a worker as by the mover, keeps the rule, and is the event `Unmap`, of the mapping whose
+/// place it found.
+pub fn law_unmap()
+    ensures { UnmapLaw }
+{}
+
+/// Every other step keeps the rule, and is no event: the world stays as it was.
 pub fn law_other()
     ensures page { PageLaw }
     ensures cell { CellLaw }
     ensures look { LookLaw }
     ensures take { TakeLaw }
     ensures fill { FillLaw }
+    ensures opened { OpenLaw }
+    ensures push { PushLaw }
+    ensures settle { SettleLaw }
+    ensures pay { PayLaw }
+    ensures member { MemberLaw }
+    ensures give { GiveLaw }
     ensures split { SplitLaw }
     ensures join { JoinLaw }
 {}
@@ -46,9 +64,25 @@ pub fn law_own_pages()
     ensures cells { OwnCellsLaw }
 {}
 
-/// The world is read off the words and the views: Current off the words, Fresh and Out off the mover's view, Gone off
-/// the directory, who has entered and who is inside what off the worker's views. A mapping that a worker is inside
-/// isn't Gone. A slot's word counts who has entered or is inside.
+/// The world is reached from the opening's by lawful events, and is read off the words and the views: Current off the
+/// words, Fresh and Out off the mover's view, Retired off the members' words, Gone off the directory, who has entered and
+/// who is inside what off the workers' views. A mapping that a worker is inside isn't Gone. A slot's word counts who has
+/// entered or is inside.
 pub fn law_reading()
     ensures { ReadingLaw }
+{}
+
+/// A mapping that a worker is inside waits for it: it is Current, or Out, or Retired in a batch that the worker's slot
+/// has yet to pass or that the worker owes. A count is what is owed, and is zero exactly where somebody brought it there;
+/// whoever did, and nobody else, may unmap the batch's mappings, and frees the batch until they are Gone. A seat that is
+/// at rest, as `leave` and `retire` leave it, owes nothing and has freed each batch that it brought to zero; the mover's
+/// has opened each batch that lists a mapping, and has settled it on every slot. Where all seats are at rest, each mapping
+/// that was retired is Gone, unmapped exactly once, and at most one frame of each module has an owner beside those of
+/// Fresh and Out mappings.
+pub fn law_owing()
+    ensures pinned { PinnedLaw }
+    ensures counts { CountsLaw }
+    ensures worker { WorkerOwesNothingLaw }
+    ensures mover { MoverOwesNothingLaw }
+    ensures quiet { QuietLaw }
 {}

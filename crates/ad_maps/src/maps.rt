@@ -1,6 +1,6 @@
 //! The mappings of the modules: the table, its handles, and the calls that take no memory.
 
-ghost use Rattle.std.specs.Prelude.{◌≡◌, ◌≢◌, ◌/◌, ◌<◌, ◌≤◌, [], ◌∷◌, ◌++◌, length, IfNone, IfSome};
+ghost use Rattle.std.specs.Prelude.{◌≡◌, ◌≢◌, ◌/◌, ◌<◌, ◌≤◌, [], ◌∷◌, ◌++◌, true, length, IfNone, IfSome};
 ghost use Rattle.ad_base.specs.declared.layout.TheConstants.{REGION_BYTES, REGIONS};
 ghost use Rattle.ad_base.specs.declared.place.Place.{Place};
 ghost use Rattle.ad_base.specs.Place.{base_of, packed, page_number, IsInside, IsPlace, place_at};
@@ -8,10 +8,13 @@ ghost use Rattle.ad_maps.specs.declared.view.Act.TheVariants as act;
 ghost use Rattle.ad_maps.specs.declared.words.TheConstants.{CELLS};
 ghost use Rattle.ad_maps.specs.Ledger.{reads_of, NeverFall};
 ghost use Rattle.ad_maps.specs.MapPlace.{cell_word, cells_of, IsPlaceOf};
+ghost use Rattle.ad_maps.specs.Seen.{AddsUnmaps};
 
+use crate::free::pay_batches;
 use crate::steps;
 use crate::table::{MapTable, TableSeat};
 use crate::view::Made;
+use crate::words::ONE_PUSH;
 use ad_base::{Place, REGION_BYTES, REGIONS};
 use std::marker::{Brand, Model};
 
@@ -25,6 +28,7 @@ use std::marker::{Brand, Model};
 pub struct Maps {
     pub(crate) table: MapTable,
     pub(crate) frames: u64,
+    pub(crate) slots: u64,
 }
 
 impl Model for Maps {
@@ -37,7 +41,7 @@ impl Model for Maps {
 
     ghost view = { λ s. record { table = s.table.shared.table_id; shape = s.table.shared.key } };
 
-    ghost invariant = { λ s. (s.table.shared.table_id.words ≡ WORDS) × (s.table.shared.table_id.slots ≡ 0) × IsShape s.table.shared.key × (s.frames ≡ s.table.shared.key.frames) };
+    ghost invariant = { λ s. (s.table.shared.table_id.words ≡ WORDS) × (s.table.shared.table_id.slots ≡ 0) × IsShape s.table.shared.key × (s.frames ≡ s.table.shared.key.frames) × (s.slots ≡ s.table.shared.key.slots) };
 }
 
 /// A worker's seat while it is away: it owes nothing.
@@ -50,11 +54,12 @@ pub struct Seat {
 impl Model for Seat {
     ghost use Rattle.ad_maps.specs.declared.view.Stance.TheVariants.{Away};
     ghost use Rattle.ad_maps.specs.Private.Handles.{acts_of, worker_of, IsWorker};
+    ghost use Rattle.ad_maps.specs.Steps.{is_at_rest};
     ghost use Rattle.ad_maps.specs.Seen.{SeatSeen};
 
     ghost Value = { SeatSeen };
 
-    ghost view = { λ s. record { table = s.seat.table_id; worker = worker_of s.seat.me.0; acts = acts_of s.seat.me.0 } };
+    ghost view = { λ s. record { table = s.seat.table_id; worker = worker_of s.seat.me.0; acts = acts_of s.seat.me.0; at_rest = is_at_rest s.seat.me.0 } };
 
     ghost invariant = { λ s. IsWorker s.seat.me s.slot Away };
 }
@@ -63,38 +68,43 @@ impl Model for Seat {
 pub struct Inside {
     seat: TableSeat,
     slot: u64,
+    entry: u64,
     place: Place,
 }
 
 impl Model for Inside {
-    ghost use Rattle.std.specs.Prelude.{◌<◌};
+    ghost use Rattle.std.specs.Prelude.{◌≡◌, ◌<◌};
     ghost use Rattle.ad_base.specs.Place.{IsPlace};
     ghost use Rattle.ad_maps.specs.declared.words.TheConstants.{FRAME_WORDS};
-    ghost use Rattle.ad_maps.specs.Private.Handles.{acts_of, module_in, stance_of, worker_of, IsPinned};
+    ghost use Rattle.ad_maps.specs.Private.Handles.{acts_of, entry_in, module_in, stance_of, worker_of, IsPinned};
+    ghost use Rattle.ad_maps.specs.Steps.{is_at_rest};
     ghost use Rattle.ad_maps.specs.Seen.{InsideSeen};
 
     ghost Value = { InsideSeen };
 
-    ghost view = { λ s. record { seat = record { table = s.seat.table_id; worker = worker_of s.seat.me.0; acts = acts_of s.seat.me.0 }; of_module = module_in (stance_of s.seat.me.0); place = s.place } };
+    ghost view = { λ s. record { seat = record { table = s.seat.table_id; worker = worker_of s.seat.me.0; acts = acts_of s.seat.me.0; at_rest = is_at_rest s.seat.me.0 }; of_module = module_in (stance_of s.seat.me.0); place = s.place } };
 
-    ghost invariant = { λ s. IsPinned s.seat.me s.slot s.place × IsPlace s.place × (s.place.frame < FRAME_WORDS) };
+    ghost invariant = { λ s. IsPinned s.seat.me s.slot s.place × (s.entry ≡ entry_in (stance_of s.seat.me.0)) × IsPlace s.place × (s.place.frame < FRAME_WORDS) };
 }
 
 /// The mover's seat.
 #[derive(Drop)]
 pub struct MoverSeat {
     pub(crate) seat: TableSeat,
+    pub(crate) slots: u64,
+    pub(crate) batches: u64,
 }
 
 impl Model for MoverSeat {
     ghost use Rattle.ad_maps.specs.Private.Handles.{plan_of, IsIdle};
+    ghost use Rattle.ad_maps.specs.Steps.{is_at_rest};
     ghost use Rattle.ad_maps.specs.Seen.{MoverSeen};
 
     ghost Value = { MoverSeen };
 
-    ghost view = { λ m. let q = plan_of m.seat.me.0 in record { table = m.seat.table_id; current = q.current; fresh = q.fresh; outs = q.outs; rooms = q.rooms; deeds = q.deeds } };
+    ghost view = { λ m. let q = plan_of m.seat.me.0 in record { table = m.seat.table_id; current = q.current; fresh = q.fresh; outs = q.outs; rooms = q.rooms; deeds = q.deeds; at_rest = is_at_rest m.seat.me.0 } };
 
-    ghost invariant = { λ m. IsIdle m.seat.me };
+    ghost invariant = { λ m. IsIdle m.seat.me m.slots m.batches };
 }
 
 /// A frame of a module, which had no owner when the mover looked at it.
@@ -129,8 +139,7 @@ pub struct Busy {
     pub owner: u16,
 }
 
-/// A mapping that was made, and isn't current yet.
-#[derive(Drop)]
+/// A mapping that was made, and isn't current yet. It can't be let go: `switch` takes it.
 pub struct Mapped {
     pub(crate) made: Made,
 }
@@ -193,10 +202,15 @@ impl Maps {
         ensures falls { NeverFall (reads_of «module» result.seat.acts) }
     {
         let Seat { mut seat, slot } = seat;
-        steps::enter(&self.table, &mut seat, slot);
+        let entered = steps::enter(&self.table, &mut seat, slot);
         let word = steps::read::<Brand>(&self.table, &mut seat, slot, module);
         let place = place_of(word);
-        Inside { seat, slot, place }
+        Inside {
+            seat,
+            slot,
+            entry: entered / ONE_PUSH,
+            place,
+        }
     }
 
     /// The page's number in the movable part, or `None` exactly where the address isn't of the mapping that the
@@ -237,19 +251,23 @@ impl Maps {
         steps::entry::<Brand>(&self.table, &mut inside.seat, inside.slot, &place, entry)
     }
 
-    /// Leaves: the seat owes nothing.
+    /// Leaves, and pays what it owes: the seat owes nothing then. A batch whose last debt it pays it frees: it unmaps
+    /// the batch's mappings, and gives their frames back.
     pub fn leave(&self, inside: Inside) -> Seat
         requires { inside.seat.table ≡ self.now.table }
         ensures table { result.table ≡ inside.seat.table }
         ensures worker { result.worker ≡ inside.seat.worker }
-        ensures acts { result.acts ≡ inside.seat.acts ++ act.Leave ∷ [] }
+        ensures acts { AddsUnmaps (inside.seat.acts ++ act.Leave ∷ []) result.acts }
+        ensures owing_nothing { result.at_rest ≡ true }
     {
         let Inside {
             mut seat,
             slot,
+            entry,
             place,
         } = inside;
-        steps::leave(&self.table, &mut seat, slot, &place);
+        let word = steps::leave(&self.table, &mut seat, slot, &place);
+        pay_batches(&self.table, &mut seat, slot, entry, word / ONE_PUSH);
         Seat { seat, slot }
     }
 }

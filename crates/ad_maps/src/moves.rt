@@ -85,6 +85,7 @@ impl Maps {
         ensures current { mover.new.current ≡ slice_set mover.old.current mapped.of_module mapped.place.mapping }
         ensures fresh { mover.new.fresh ≡ but mapped.place.mapping mover.old.fresh }
         ensures outs { mover.new.outs ≡ mover.old.outs ++ result ∷ [] }
+        ensures new { (g : Made) → Contains mover.old.outs g → g.place.mapping ≢ result.place.mapping }
         ensures table { mover.new.table ≡ mover.old.table }
         ensures rooms { mover.new.rooms ≡ mover.old.rooms }
     {

@@ -39,7 +39,17 @@ impl Maps {
         let words = words_of(alloc, &shape)?;
         let (table, mut seat) = MapTable::of_words(alloc, words.as_slice(), &shape)?;
         let seats = deal(alloc, &table, &mut seat, slots, workers)?;
-        Ok((Maps { table, frames }, MoverSeat { seat }, seats))
+        let maps = Maps {
+            table,
+            frames,
+            slots,
+        };
+        let mover = MoverSeat {
+            seat,
+            slots,
+            batches: 0,
+        };
+        Ok((maps, mover, seats))
     }
 }
 

@@ -99,6 +99,42 @@ impl Play<(), Doing> for Leave {
     ghost then = { Leaves };
 }
 
+/// A worker takes one from the count of a batch.
+pub(crate) struct Pay;
+
+impl Play<(), Doing> for Pay {
+    ghost use Rattle.ad_maps.specs.Steps.{after_pay, Becomes};
+
+    ghost then = { Becomes after_pay };
+}
+
+/// Who frees a batch loads the word of one of its members.
+pub(crate) struct Member;
+
+impl Play<(), Doing> for Member {
+    ghost use Rattle.ad_maps.specs.Steps.{after_member, Becomes};
+
+    ghost then = { Becomes after_member };
+}
+
+/// Who frees a batch adds one unmap step to a directory word.
+pub(crate) struct Unmap;
+
+impl Play<(), Doing> for Unmap {
+    ghost use Rattle.ad_maps.specs.Private.Tells.{Unmaps};
+
+    ghost then = { Unmaps };
+}
+
+/// Who frees a batch gives a frame back.
+pub(crate) struct Give;
+
+impl Play<(), Doing> for Give {
+    ghost use Rattle.ad_maps.specs.Steps.{after_give, Becomes};
+
+    ghost then = { Becomes after_give };
+}
+
 /// The mover looks at the owner of a frame.
 pub(crate) struct Look<N> {
     noted: PhantomData<N>,
@@ -148,6 +184,44 @@ impl<N: Noted> Play<(), Doing> for Switch<N> {
     ghost use Rattle.ad_maps.specs.Private.Tells.{Switches};
 
     ghost then = { Switches N.shape N.made };
+}
+
+/// The mover lists a mapping in its next batch.
+pub(crate) struct List<N> {
+    noted: PhantomData<N>,
+}
+
+impl<N: Noted> Play<(), Doing> for List<N> {
+    ghost use Rattle.ad_maps.specs.Steps.{after_list, Becomes};
+
+    ghost then = { Becomes (after_list N.made N.number) };
+}
+
+/// The mover opens its next batch.
+pub(crate) struct Open;
+
+impl Play<(), Doing> for Open {
+    ghost use Rattle.ad_maps.specs.Private.Tells.{Opens};
+
+    ghost then = { Opens };
+}
+
+/// The mover pushes its batch on a slot.
+pub(crate) struct Push;
+
+impl Play<(), Doing> for Push {
+    ghost use Rattle.ad_maps.specs.Steps.{after_push, Becomes};
+
+    ghost then = { Becomes after_push };
+}
+
+/// The mover settles a slot.
+pub(crate) struct Settle;
+
+impl Play<(), Doing> for Settle {
+    ghost use Rattle.ad_maps.specs.Steps.{after_settle, Becomes};
+
+    ghost then = { Becomes after_settle };
 }
 
 /// A worker's seat is split off the mover's.

@@ -1,15 +1,16 @@
 //! What no clause says: worked examples, each call once with ample memory, and threads beside one another.
 //! The expected values are written by hand.
 
-ghost use Rattle.std.specs.Prelude.{◌≡◌, ℕ, ◌+◌, ◌*◌, ◌<◌, ◌≤◌, [], ◌∷◌, length, slice_index, slice_index_or, Contains, IfOk};
+ghost use Rattle.std.specs.Prelude.{◌≡◌, ℕ, ◌+◌, ◌*◌, ◌<◌, ◌≤◌, [], ◌∷◌, length, slice_index, slice_index_or, Contains, IfOk, OnOk};
 ghost use Rattle.std.specs.Thread.{IsSync};
 ghost use Rattle.ad_base.specs.declared.image.Cell.TheVariants.{Off, Num};
 ghost use Rattle.ad_maps.specs.declared.view.Made.{Made};
 ghost use Rattle.ad_maps.specs.Ledger.{all_made};
 ghost use Rattle.ad_maps.specs.MapPlace.{no_opening, opening_of, cells_of};
 ghost use Rattle.ad_maps.specs.Rows.{AreAllSeats};
+ghost use Rattle.ad_maps.specs.Private.Trials.{MayMove};
 
-use crate::{Closed, Inside, Maps, MoverSeat, Opening, Seat};
+use crate::{Closed, Inside, Maps, MoverSeat, Opening, Out, Seat};
 use ad_base::{Cell, Kind, OutOfMemory, PAGE_BYTES, Place, REGION_BYTES, Row, Sequence};
 use std::alloc::{AllocError, Global};
 use std::process::Abort;
@@ -119,42 +120,121 @@ fn frames_are_found_in_order(rt: HostRuntime) -> Result<(), Fail> {
     Ok(())
 }
 
-/// Makes the mapping of this number for module 0, and makes it current. Answers the number of the one that was
-/// current, or, where each frame has an owner, that of the last one's.
-fn moved(maps: &Maps, mover: &mut MoverSeat, number: u16, cells: &[Cell]) -> Result<u16, u16>
-    requires table { mover.old.table ≡ maps.now.table }
-    requires some_module { 0 < length maps.now.shape.modules }
-    requires few { maps.now.shape.frames ≤ 16 }
-    requires pages { (opening_of maps.now.shape 0).place.pages ≡ 3 }
-    requires cells { cells.now ≡ cells_of maps.now.shape 0 }
+/// A table that may be moved, with no mapping that is out.
+fn open_moving(
+    alloc: Global,
+    slots: u64,
+    frames: u64,
+    workers: u64,
+    modules: u64,
+) -> Result<(Maps, MoverSeat, Vec<Seat>, Vec<Out>), OutOfMemory>
+    requires slots { (1 ≤ slots) × (slots ≤ 16) }
+    requires frames { (2 ≤ frames) × (frames ≤ 16) }
+    requires workers { workers ≤ 64 }
+    requires modules { modules ≤ 8 }
+    ensures modules { IfOk result (λ o. length o.0.shape.modules ≡ modules) }
+    ensures seats { IfOk result (λ o. AreAllSeats o.0.table o.0.shape.workers o.2.items) }
+    ensures workers { IfOk result (λ o. o.0.shape.workers ≡ workers) }
+    ensures may { IfOk result (λ o. MayMove o.0 o.1 o.3.items (1 + modules)) }
+{
+    let (maps, mover, seats) = open_maps(alloc, slots, frames, workers, modules)?;
+    let outs = Vec::new(alloc);
+    Ok((maps, mover, seats, outs))
+}
+
+/// Makes the mapping of this number for the module, and makes it current. Where each frame has an owner, answers that of
+/// the last one.
+fn moved(
+    maps: &Maps,
+    mover: &mut MoverSeat,
+    outs: &mut Vec<Out>,
+    module: u64,
+    number: u16,
+    cells: &[Cell],
+) -> Result<Option<u16>, AllocError>
+    requires may { MayMove maps.now mover.old outs.old.items number }
+    requires in_range { «module» < length maps.now.shape.modules }
     requires from { 1 ≤ number }
     requires to { number ≤ 4095 }
-    requires current { slice_index mover.old.current 0 < number }
-    requires some_current { 0 < length mover.old.current }
-    requires above { (x : Made) → Contains (all_made maps.now.shape mover.old.deeds) x → x.place.mapping < number }
-    requires region { (x : Made) → Contains (all_made maps.now.shape mover.old.deeds) x → x.place.region < 2 + number }
-    ensures table { mover.new.table ≡ mover.old.table }
-    ensures some_current { 0 < length mover.new.current }
-    ensures current { slice_index mover.new.current 0 ≤ number }
-    ensures above { (x : Made) → Contains (all_made maps.now.shape mover.new.deeds) x → x.place.mapping < 1 + number }
-    ensures region { (x : Made) → Contains (all_made maps.now.shape mover.new.deeds) x → x.place.region < 3 + number }
+    requires cells { cells.now ≡ Off 16 ∷ Num 7 ∷ [] }
+    ensures { OnOk result (MayMove maps.now mover.new outs.new.items (number + 1)) }
 {
-    let room = match maps.room(mover, 0) {
+    let room = match maps.room(mover, module) {
         Ok(room) => room,
-        Err(busy) => return Err(busy.owner),
+        Err(busy) => return Ok(Some(busy.owner)),
     };
     let place = test_place(number, room.frame());
     let mapped = maps.map(mover, room, place, cells);
     let out = maps.switch(mover, mapped);
-    Ok(out.place().mapping)
+    outs.push(out)?;
+    Ok(None)
+}
+
+/// Retires the mappings that are out under a line, if there are 1 to 8. The number is that of the next mapping.
+fn retired(maps: &Maps, mover: &mut MoverSeat, outs: &mut Vec<Out>, line: u64, number: u16)
+    requires may { MayMove maps.now mover.old outs.old.items number }
+    requires some_line { 1 ≤ line }
+    requires few_lines { line ≤ 20000 }
+    ensures { MayMove maps.now mover.new outs.new.items number }
+{
+    let _ = number;
+    if outs.len() >= 1 && outs.len() <= 8 {
+        maps.retire(mover, line, outs);
+    }
+}
+
+/// A table of one worker that may be moved.
+fn open_one(
+    rt: &impl Abort,
+    alloc: Global,
+    slots: u64,
+    frames: u64,
+    modules: u64,
+) -> Result<(Maps, MoverSeat, Seat, Vec<Out>), OutOfMemory>
+    requires slots { (1 ≤ slots) × (slots ≤ 16) }
+    requires frames { (2 ≤ frames) × (frames ≤ 16) }
+    requires modules { modules ≤ 8 }
+    ensures modules { IfOk result (λ o. length o.0.shape.modules ≡ modules) }
+    ensures workers { IfOk result (λ o. o.0.shape.workers ≡ 1) }
+    ensures seat { IfOk result (λ o. (o.2.table ≡ o.0.table) × (o.2.worker ≡ 0)) }
+    ensures may { IfOk result (λ o. MayMove o.0 o.1 o.3.items (1 + modules)) }
+{
+    let (maps, mover, mut seats, outs) = open_moving(alloc, slots, frames, 1, modules)?;
+    let seat = seats.pop().expect(rt, "a seat");
+    Ok((maps, mover, seat, outs))
+}
+
+/// A table of two workers of one slot that may be moved.
+fn open_two(
+    rt: &impl Abort,
+    alloc: Global,
+    frames: u64,
+) -> Result<(Maps, MoverSeat, Seat, Seat, Vec<Out>), OutOfMemory>
+    requires frames { (2 ≤ frames) × (frames ≤ 16) }
+    ensures modules { IfOk result (λ o. length o.0.shape.modules ≡ 1) }
+    ensures workers { IfOk result (λ o. o.0.shape.workers ≡ 2) }
+    ensures first { IfOk result (λ o. (o.2.table ≡ o.0.table) × (o.2.worker ≡ 0)) }
+    ensures second { IfOk result (λ o. (o.3.table ≡ o.0.table) × (o.3.worker ≡ 1)) }
+    ensures may { IfOk result (λ o. MayMove o.0 o.1 o.4.items 2) }
+{
+    let (maps, mover, mut seats, outs) = open_moving(alloc, 1, frames, 2, 1)?;
+    let second = seats.pop().expect(rt, "a seat");
+    let first = seats.pop().expect(rt, "a seat");
+    Ok((maps, mover, first, second, outs))
 }
 
 #[test]
 fn frames_run_out(rt: HostRuntime) -> Result<(), Fail> {
     let cells = test_cells(rt.alloc())?;
-    let (maps, mut mover, _seats) = open_maps(rt.alloc(), 1, 2, 1, 1)?;
-    assert_eq!(rt; moved(&maps, &mut mover, 2, cells.as_slice()), Ok(1));
-    assert_eq!(rt; moved(&maps, &mut mover, 3, cells.as_slice()), Err(2));
+    let (maps, mut mover, _seats, mut outs) = open_moving(rt.alloc(), 1, 2, 1, 1)?;
+    assert_eq!(rt;
+        moved(&maps, &mut mover, &mut outs, 0, 2, cells.as_slice())?,
+        None
+    );
+    assert_eq!(rt;
+        moved(&maps, &mut mover, &mut outs, 0, 3, cells.as_slice())?,
+        Some(2)
+    );
     Ok(())
 }
 
@@ -212,27 +292,8 @@ fn close_one(alloc: Global, maps: Maps, mover: MoverSeat, seat: Seat) -> Result<
     maps.close(alloc, mover, seats)
 }
 
-/// A table of one slot, two frames, one worker and one module, whose mapping is 1.
-fn open_one(rt: &impl Abort, alloc: Global) -> Result<(Maps, MoverSeat, Seat), OutOfMemory>
-    ensures workers { IfOk result (λ o. o.0.shape.workers ≡ 1) }
-    ensures modules { IfOk result (λ o. length o.0.shape.modules ≡ 1) }
-    ensures frames { IfOk result (λ o. o.0.shape.frames ≡ 2) }
-    ensures mover { IfOk result (λ o. o.1.table ≡ o.0.table) }
-    ensures seat { IfOk result (λ o. (o.2.table ≡ o.0.table) × (o.2.worker ≡ 0)) }
-    ensures pages { IfOk result (λ o. (opening_of o.0.shape 0).place.pages ≡ 3) }
-    ensures cells { IfOk result (λ o. cells_of o.0.shape 0 ≡ Off 16 ∷ Num 7 ∷ []) }
-    ensures currents { IfOk result (λ o. length o.1.current ≡ 1) }
-    ensures current { IfOk result (λ o. slice_index o.1.current 0 ≡ 1) }
-    ensures above { IfOk result (λ o. (x : Made) → Contains (all_made o.0.shape o.1.deeds) x → x.place.mapping < 2) }
-    ensures region { IfOk result (λ o. (x : Made) → Contains (all_made o.0.shape o.1.deeds) x → x.place.region < 4) }
-{
-    let (maps, mover, mut seats) = open_maps(alloc, 1, 2, 1, 1)?;
-    let seat = seats.pop().expect(rt, "a seat");
-    Ok((maps, mover, seat))
-}
-
-/// The row of a mapping that isn't retired.
-fn row(mapping: u16, who: u64, frame: u8) -> Row
+/// The row of a mapping that was retired under this line, or, at 0, that wasn't.
+fn row(mapping: u16, who: u64, frame: u8, line: u64) -> Row
     requires { mapping ≤ 4095 }
 {
     Row {
@@ -240,28 +301,258 @@ fn row(mapping: u16, who: u64, frame: u8) -> Row
         kind: Kind::Code,
         who,
         place: test_place(mapping, frame),
-        line: 0,
-        unmaps: 0,
+        line,
+        unmaps: if line == 0 { 0 } else { 1 },
     }
 }
 
-/// Mapping 2 is made current while a worker is inside mapping 1. Then no frame is left.
+/// The number of the first frame of module 0 that has no owner, or the owner of the last one.
+fn first_room(maps: &Maps, mover: &mut MoverSeat) -> Result<u8, u16>
+    requires table { mover.old.table ≡ maps.now.table }
+    requires some_module { 0 < length maps.now.shape.modules }
+    ensures { mover.new.table ≡ mover.old.table }
+{
+    match maps.room(mover, 0) {
+        Ok(room) => Ok(room.frame()),
+        Err(busy) => Err(busy.owner),
+    }
+}
+
+/// Mapping 2 is made current while a worker is inside mapping 1, which is retired under line 7. Its frame has an owner
+/// until the worker leaves.
 #[test]
-fn a_module_is_moved_under_a_worker(rt: HostRuntime) -> Result<(), Fail> {
+fn who_leaves_unmaps_what_was_retired(rt: HostRuntime) -> Result<(), Fail> {
     let cells = test_cells(rt.alloc())?;
-    let (maps, mut mover, seat) = open_one(&rt, rt.alloc())?;
+    let (maps, mut mover, seat, mut outs) = open_one(&rt, rt.alloc(), 1, 2, 1)?;
     let mut inside = maps.enter(seat, 0);
-    assert_eq!(&rt; moved(&maps, &mut mover, 2, cells.as_slice()), Ok(1));
+    let busy = moved(&maps, &mut mover, &mut outs, 0, 2, cells.as_slice()).expect(&rt, "memory");
+    assert_eq!(&rt; busy, None);
+    retired(&maps, &mut mover, &mut outs, 7, 3);
+    assert!(&rt; outs.is_empty());
     assert_eq!(&rt; inside.place(), test_place(1, 0));
     assert!(&rt; sees_itself(&maps, &mut inside));
-    assert_eq!(&rt; moved(&maps, &mut mover, 3, cells.as_slice()), Err(2));
+    assert_eq!(&rt; first_room(&maps, &mut mover), Err(2));
     let seat = maps.leave(inside);
+    assert_eq!(&rt; first_room(&maps, &mut mover), Ok(0));
+    let closed = close_one(rt.alloc(), maps, mover, seat)?;
+    assert_eq!(&rt; closed.rows().len(), 2);
+    assert_eq!(&rt; closed.rows()[0], row(1, 0, 0, 7));
+    assert_eq!(&rt; closed.rows()[1], row(2, 0, 1, 0));
+    Ok(())
+}
+
+/// Nobody is inside the mapping that is retired: the mover settles the batch to zero, and unmaps it.
+#[test]
+fn the_mover_unmaps_what_nobody_is_inside(rt: HostRuntime) -> Result<(), Fail> {
+    let cells = test_cells(rt.alloc())?;
+    let (maps, mut mover, seat, mut outs) = open_one(&rt, rt.alloc(), 16, 2, 1)?;
+    assert_eq!(&rt;
+        moved(&maps, &mut mover, &mut outs, 0, 2, cells.as_slice())?,
+        None
+    );
+    retired(&maps, &mut mover, &mut outs, 20_000, 3);
+    assert_eq!(&rt; first_room(&maps, &mut mover), Ok(0));
     let (seat, mapping) = visited(&rt, &maps, seat, 0);
     assert_eq!(&rt; mapping, 2);
     let closed = close_one(rt.alloc(), maps, mover, seat)?;
     assert_eq!(&rt; closed.rows().len(), 2);
-    assert_eq!(&rt; closed.rows()[0], row(1, 0, 0));
-    assert_eq!(&rt; closed.rows()[1], row(2, 0, 1));
+    assert_eq!(&rt; closed.rows()[0], row(1, 0, 0, 20_000));
+    assert_eq!(&rt; closed.rows()[1], row(2, 0, 1, 0));
+    Ok(())
+}
+
+/// Moves each of so many modules once, from this number on.
+fn each_moved(
+    maps: &Maps,
+    mover: &mut MoverSeat,
+    outs: &mut Vec<Out>,
+    modules: u16,
+    cells: &[Cell],
+) -> Result<bool, AllocError>
+    requires may { MayMove maps.now mover.old outs.old.items (1 + modules) }
+    requires modules { modules ≡ length maps.now.shape.modules }
+    requires few { modules ≤ 8 }
+    requires cells { cells.now ≡ Off 16 ∷ Num 7 ∷ [] }
+    ensures { OnOk result (MayMove maps.now mover.new outs.new.items (1 + modules + modules)) }
+{
+    let mut all = true;
+    for module in 0..modules {
+        let busy = moved(
+            maps,
+            mover,
+            outs,
+            u64::from(module),
+            1 + modules + module,
+            cells,
+        )?;
+        all = all && busy.is_none();
+    }
+    Ok(all)
+}
+
+/// A batch of 8 mappings, each of another module, is unmapped by the one worker that is inside one of them.
+#[test]
+fn a_batch_has_8_members(rt: HostRuntime) -> Result<(), Fail> {
+    let cells = test_cells(rt.alloc())?;
+    let (maps, mut mover, seat, mut outs) = open_one(&rt, rt.alloc(), 3, 2, 8)?;
+    let inside = maps.enter(seat, 5);
+    let all = each_moved(&maps, &mut mover, &mut outs, 8, cells.as_slice()).expect(&rt, "memory");
+    assert!(&rt; all);
+    assert_eq!(&rt; outs.len(), 8);
+    retired(&maps, &mut mover, &mut outs, 3, 17);
+    assert_eq!(&rt; first_room(&maps, &mut mover), Err(9));
+    let seat = maps.leave(inside);
+    assert_eq!(&rt; first_room(&maps, &mut mover), Ok(0));
+    let closed = close_one(rt.alloc(), maps, mover, seat)?;
+    assert_eq!(&rt; closed.rows().len(), 16);
+    for module in 0..8u16 {
+        let old = row(1 + module, u64::from(module), (2 * module) as u8, 3);
+        assert_eq!(&rt; closed.rows()[usize::from(module)], old);
+        let new = row(9 + module, u64::from(module), (2 * module + 1) as u8, 0);
+        assert_eq!(&rt; closed.rows()[usize::from(8 + module)], new);
+    }
+    Ok(())
+}
+
+/// Moves modules 1 and 2 in turn, and retires each mapping in a batch of its own, under lines from 1 on.
+fn retired_alone(
+    maps: &Maps,
+    mover: &mut MoverSeat,
+    outs: &mut Vec<Out>,
+    times: u16,
+    cells: &[Cell],
+) -> Result<bool, AllocError>
+    requires may { MayMove maps.now mover.old outs.old.items 4 }
+    requires modules { 3 ≡ length maps.now.shape.modules }
+    requires times { times ≤ 4000 }
+    requires cells { cells.now ≡ Off 16 ∷ Num 7 ∷ [] }
+    ensures { OnOk result (mover.new.table ≡ maps.now.table) }
+{
+    let mut all = true;
+    for more in 0..times {
+        let module = 1 + u64::from(more) % 2;
+        let busy = moved(maps, mover, outs, module, 4 + more, cells)?;
+        all = all && busy.is_none();
+        retired(maps, mover, outs, 1 + u64::from(more), 5 + more);
+    }
+    Ok(all)
+}
+
+/// A worker stays inside through 20 moves of other modules: no frame of theirs is given back. Then it frees 20 batches.
+#[test]
+fn who_stays_frees_each_batch(rt: HostRuntime) -> Result<(), Fail> {
+    let cells = test_cells(rt.alloc())?;
+    let (maps, mut mover, seat, mut outs) = open_one(&rt, rt.alloc(), 2, 16, 3)?;
+    let mut inside = maps.enter(seat, 0);
+    let all = retired_alone(&maps, &mut mover, &mut outs, 20, cells.as_slice()).expect(
+        &rt, "memory",
+    );
+    assert!(&rt; all);
+    assert!(&rt; sees_itself(&maps, &mut inside));
+    let seat = maps.leave(inside);
+    let closed = close_one(rt.alloc(), maps, mover, seat)?;
+    assert_eq!(&rt; closed.rows().len(), 23);
+    assert_eq!(&rt; closed.rows()[0], row(1, 0, 0, 0));
+    // Each mapping of modules 1 and 2 was retired by the second move after its own, the last two by none.
+    assert_eq!(&rt; closed.rows()[1], row(2, 1, 16, 1));
+    assert_eq!(&rt; closed.rows()[2], row(3, 2, 32, 2));
+    for more in 0..20u16 {
+        let who = 1 + u64::from(more) % 2;
+        let frame = 16 * (1 + more % 2) + 1 + more / 2;
+        let line = if more < 18 { u64::from(more) + 3 } else { 0 };
+        assert_eq!(&rt;
+            closed.rows()[usize::from(3 + more)],
+            row(4 + more, who, frame as u8, line)
+        );
+    }
+    Ok(())
+}
+
+/// Closes a table of two workers.
+fn close_two(
+    alloc: Global,
+    maps: Maps,
+    mover: MoverSeat,
+    first: Seat,
+    second: Seat,
+) -> Result<Closed, OutOfMemory>
+    requires workers { maps.shape.workers ≡ 2 }
+    requires mover { mover.table ≡ maps.table }
+    requires first { (first.table ≡ maps.table) × (first.worker ≡ 0) }
+    requires second { (second.table ≡ maps.table) × (second.worker ≡ 1) }
+{
+    let mut seats = Vec::new(alloc);
+    seats.push(first)?;
+    seats.push(second)?;
+    maps.close(alloc, mover, seats)
+}
+
+/// A worker leaves. Gives its seat, and the first free frame.
+fn left(maps: &Maps, mover: &mut MoverSeat, inside: Inside) -> (Seat, Result<u8, u16>)
+    requires inside { inside.seat.table ≡ maps.now.table }
+    requires mover { mover.old.table ≡ maps.now.table }
+    requires some_module { 0 < length maps.now.shape.modules }
+    ensures table { result.0.table ≡ maps.now.table }
+    ensures worker { result.0.worker ≡ inside.seat.worker }
+    ensures mover { mover.new.table ≡ mover.old.table }
+{
+    let seat = maps.leave(inside);
+    (seat, first_room(maps, mover))
+}
+
+/// Both leave, in one order or the other. Gives the seats, and what is free after the first has left and after both have.
+fn both_left(
+    maps: &Maps,
+    mover: &mut MoverSeat,
+    early: Inside,
+    late: Inside,
+    late_first: bool,
+) -> (Seat, Seat, [Result<u8, u16>; 2])
+    requires early { early.seat.table ≡ maps.now.table }
+    requires late { late.seat.table ≡ maps.now.table }
+    requires mover { mover.old.table ≡ maps.now.table }
+    requires some_module { 0 < length maps.now.shape.modules }
+    ensures early { (result.0.table ≡ maps.now.table) × (result.0.worker ≡ early.seat.worker) }
+    ensures late { (result.1.table ≡ maps.now.table) × (result.1.worker ≡ late.seat.worker) }
+    ensures mover { mover.new.table ≡ mover.old.table }
+{
+    if late_first {
+        let (second, between) = left(maps, mover, late);
+        let (first, after) = left(maps, mover, early);
+        return (first, second, [between, after]);
+    }
+    let (first, between) = left(maps, mover, early);
+    let (second, after) = left(maps, mover, late);
+    (first, second, [between, after])
+}
+
+/// Two workers of one slot: the one that entered mapping 1 owes two batches, the one that entered mapping 2 the second.
+/// Whoever leaves last frees that one.
+#[test]
+fn two_workers_of_a_slot_leave_in_both_orders(rt: HostRuntime) -> Result<(), Fail> {
+    let cells = test_cells(rt.alloc())?;
+    for (late_first, found) in [(false, 0), (true, 3)] {
+        let (maps, mut mover, first, second, mut outs) = open_two(&rt, rt.alloc(), 4)?;
+        let early = maps.enter(first, 0);
+        let busy = moved(&maps, &mut mover, &mut outs, 0, 2, cells.as_slice()).expect(
+            &rt, "memory",
+        );
+        assert_eq!(&rt; busy, None);
+        retired(&maps, &mut mover, &mut outs, 1, 3);
+        let late = maps.enter(second, 0);
+        let busy = moved(&maps, &mut mover, &mut outs, 0, 3, cells.as_slice()).expect(
+            &rt, "memory",
+        );
+        assert_eq!(&rt; busy, None);
+        retired(&maps, &mut mover, &mut outs, 2, 4);
+        let (first, second, free) = both_left(&maps, &mut mover, early, late, late_first);
+        assert_eq!(&rt; free, [Ok(found), Ok(0)]);
+        let closed = close_two(rt.alloc(), maps, mover, first, second)?;
+        assert_eq!(&rt; closed.rows().len(), 3);
+        assert_eq!(&rt; closed.rows()[0], row(1, 0, 0, 1));
+        assert_eq!(&rt; closed.rows()[1], row(2, 0, 1, 2));
+        assert_eq!(&rt; closed.rows()[2], row(3, 0, 2, 0));
+    }
     Ok(())
 }
 
@@ -307,38 +598,41 @@ fn all_visit<R: Threads + Abort + Sync>(
     )
 }
 
-/// Makes so many mappings of module 0 from this number on, one after another, and makes each current.
+/// Moves the modules in turn so often, with mappings from this number on, and retires what goes out, each in a batch of
+/// its own. Where a module's frames have all run out, it is passed over. Answers how many mappings it made.
 fn moves(
-    rt: &impl Abort,
     maps: &Maps,
     mover: MoverSeat,
+    outs: Vec<Out>,
     cells: &[Cell],
-    first: u16,
+    modules: u16,
     times: u16,
-) -> MoverSeat
-    requires table { mover.table ≡ maps.now.table }
-    requires some_module { 0 < length maps.now.shape.modules }
-    requires few { maps.now.shape.frames ≤ 16 }
-    requires pages { (opening_of maps.now.shape 0).place.pages ≡ 3 }
-    requires cells { cells.now ≡ cells_of maps.now.shape 0 }
-    requires from { 1 ≤ first }
-    requires to { first + times ≤ 4095 }
-    requires current { slice_index mover.current 0 < first }
-    requires some_current { 0 < length mover.current }
-    requires above { (x : Made) → Contains (all_made maps.now.shape mover.deeds) x → x.place.mapping < first }
-    requires region { (x : Made) → Contains (all_made maps.now.shape mover.deeds) x → x.place.region < 2 + first }
-    ensures { result.table ≡ mover.table }
+) -> Result<(MoverSeat, u64), AllocError>
+    requires may { MayMove maps.now mover outs.items (1 + modules) }
+    requires modules { modules ≡ length maps.now.shape.modules }
+    requires some_module { 1 ≤ modules }
+    requires few { modules ≤ 8 }
+    requires times { times ≤ 4000 }
+    requires cells { cells.now ≡ Off 16 ∷ Num 7 ∷ [] }
+    ensures { IfOk result (λ m. m.0.table ≡ maps.now.table) }
 {
     let mut mover = mover;
+    let mut outs = outs;
+    let mut made: u64 = 0;
     for more in 0..times {
-        let number = first + more;
-        let before = if more == 0 { 1 } else { number - 1 };
-        assert_eq!(rt; moved(maps, &mut mover, number, cells), Ok(before));
+        let module = u64::from(more) % u64::from(modules);
+        let number = 1 + modules + more;
+        match moved(maps, &mut mover, &mut outs, module, number, cells)? {
+            None => made = made.wrapping_add(1),
+            Some(_) => thread::yield_now(),
+        }
+        retired(maps, &mut mover, &mut outs, 1 + u64::from(more), number + 1);
     }
-    mover
+    Ok((mover, made))
 }
 
-/// Workers visit the modules beside a mover that moves module 0. Gives the closed table.
+/// Workers visit the modules beside a mover that moves and retires. Gives the closed table, and how many mappings were
+/// made.
 fn beside_one_another<R: Threads + Abort + Sync>(
     rt: &R,
     alloc: Global,
@@ -346,19 +640,18 @@ fn beside_one_another<R: Threads + Abort + Sync>(
     modules: u16,
     rounds: u64,
     times: u16,
-) -> Result<Closed, OutOfMemory>
+) -> Result<(Closed, u64), OutOfMemory>
     requires workers { workers ≤ 64 }
     requires some_module { 1 ≤ modules }
     requires few_modules { modules ≤ 8 }
-    requires times { times ≤ 15 }
+    requires times { times ≤ 4000 }
 {
     let cells = test_cells(alloc)?;
     let count = u64::from(modules);
-    let (maps, mover, seats) = open_maps(alloc, 16, 16, workers, count)?;
+    let (maps, mover, seats, outs) = open_moving(alloc, 16, 4, workers, count)?;
     let table = &maps;
     let slice = cells.as_slice();
-    let first = 1 + modules;
-    let (seats, mover) = thread::join(
+    let (seats, moved) = thread::join(
         rt,
         move || -> Result<Vec<Seat>, AllocError>
             requires sync { IsSync R.row }
@@ -367,48 +660,41 @@ fn beside_one_another<R: Threads + Abort + Sync>(
             requires some_module { 0 < count }
             ensures { IfOk result (λ after. AreAllSeats table.entry.now.table table.entry.now.shape.workers after.items) }
         { all_visit(rt, table, seats, rounds, count) },
-        move || -> MoverSeat
-            requires table { mover.table ≡ table.now.table }
-            requires some_module { 0 < length table.now.shape.modules }
-            requires few { table.now.shape.frames ≤ 16 }
-            requires pages { (opening_of table.now.shape 0).place.pages ≡ 3 }
-            requires cells { slice.now ≡ cells_of table.now.shape 0 }
-            requires from { 1 ≤ first }
-            requires to { first + times ≤ 4095 }
-            requires current { slice_index mover.current 0 < first }
-            requires some_current { 0 < length mover.current }
-            requires above { (x : Made) → Contains (all_made table.now.shape mover.deeds) x → x.place.mapping < first }
-            requires region { (x : Made) → Contains (all_made table.now.shape mover.deeds) x → x.place.region < 2 + first }
-            ensures { result.table ≡ table.entry.now.table }
-        { moves(rt, table, mover, slice, first, times) },
+        move || -> Result<(MoverSeat, u64), AllocError>
+            requires may { MayMove table.now mover outs.items (1 + modules) }
+            requires modules { modules ≡ length table.now.shape.modules }
+            requires some_module { 1 ≤ modules }
+            requires few { modules ≤ 8 }
+            requires times { times ≤ 4000 }
+            requires cells { slice.now ≡ Off 16 ∷ Num 7 ∷ [] }
+            ensures { IfOk result (λ m. m.0.table ≡ table.entry.now.table) }
+        { moves(table, mover, outs, slice, modules, times) },
     );
-    maps.close(alloc, mover, seats?)
+    let (mover, made) = moved?;
+    Ok((maps.close(alloc, mover, seats?)?, made))
 }
 
 /// Visits that each worker makes in a test. `bench/maps` says how to make more.
 const ROUNDS: u64 = 300;
 
-/// Workers, modules, visits of each worker, and moves of module 0.
-const RUNS: [(u64, u16, u64, u16); 2] = [(8, 1, ROUNDS, 15), (64, 8, 20, 15)];
+/// Workers, modules, visits of each worker, and moves.
+const RUNS: [(u64, u16, u64, u16); 2] = [(8, 1, ROUNDS, 300), (64, 8, 20, 300)];
 
-/// A stress run is no proof: it shows that threads run beside one another, and what they leave.
+/// A stress run is no proof: it shows that threads run beside one another, and what they leave. Each row that was retired
+/// was unmapped once, and all but the current mappings were.
 #[test]
 fn threads_see_their_own_mappings(rt: HostRuntime) -> Result<(), Fail> {
     for (workers, modules, rounds, times) in RUNS {
-        assert!(rt; workers <= 64 && 1 <= modules && modules <= 8 && times <= 15);
-        let closed = beside_one_another(&rt, rt.alloc(), workers, modules, rounds, times)?;
-        assert_eq!(rt; closed.rows().len(), usize::from(modules + times));
-        for index in 0..modules + times {
-            let opened = index < modules;
-            let who = if opened { u64::from(index) } else { 0 };
-            let frame = if opened {
-                index * 16
-            } else {
-                index + 1 - modules
-            };
-            let expected = row(1 + index, who, frame as u8);
-            assert_eq!(rt; closed.rows()[usize::from(index)], expected);
-        }
+        assert!(rt; workers <= 64 && 1 <= modules && modules <= 8 && times <= 4000);
+        let (closed, made) = beside_one_another(&rt, rt.alloc(), workers, modules, rounds, times)?;
+        assert_eq!(rt;
+            closed.rows().len() as u64,
+            u64::from(modules).wrapping_add(made)
+        );
+        let once = closed.rows().iter().filter(|row| row.unmaps == 1).count() as u64;
+        let retired = closed.rows().iter().filter(|row| row.line != 0).count() as u64;
+        assert_eq!(rt; once, made);
+        assert_eq!(rt; retired, made);
     }
     Ok(())
 }

@@ -31,11 +31,23 @@ pub enum Stance {
     Paying(u64, u64),
 }
 
+/// How far a seat has freed a batch whose count it brought to zero.
+pub enum Freeing {
+    /// It has none to free.
+    Nothing,
+    /// It goes on with this batch at the member of this number; no mapping before it is in the directory still.
+    Batch(u64, u64),
+    /// It goes on with this batch at the member of this number, whose word is this.
+    Found(u64, u64, u64),
+}
+
 /// What a worker's seat knows.
 pub struct Hand {
     /// The slot that it enters on.
     pub slot: u64,
     pub stance: Stance,
+    /// The batch that it frees.
+    pub freeing: Freeing,
     /// The places of the mappings that it unmapped and whose frames it hasn't given back yet.
     pub gives: [Place; 0],
     /// What it did, in order.
@@ -71,9 +83,26 @@ pub enum Stage {
     Taken(Made, u64),
 }
 
+/// How far the mover's next batch is.
+pub enum Passing {
+    /// None is under way.
+    Rest,
+    /// So many mappings are listed in it, and it isn't opened yet.
+    Listing(u64),
+    /// It is opened, and settled on so many slots; it isn't pushed on the others.
+    Settled(u64),
+    /// It is settled on so many slots, and pushed on the next one, where it found so many seats inside.
+    Pushed(u64, u64),
+}
+
 /// What the mover's seat knows.
 pub struct Plan {
     pub stage: Stage,
+    pub passing: Passing,
+    /// The number of the last batch that was opened.
+    pub batches: u64,
+    /// The batch that it frees.
+    pub freeing: Freeing,
     /// So many slots, which the worker's seats take in turn.
     pub slots: u64,
     /// So many worker's seats were split off.

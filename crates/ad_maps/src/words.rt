@@ -42,5 +42,17 @@ pub(crate) const COUNT_BASE: usize = 131_224;
 /// Where the members of the batches begin.
 pub(crate) const MEMBER_BASE: usize = 135_320;
 
+/// One unmap step, in a directory word.
+pub(crate) const ONE_UNMAP: u64 = 1 << 56;
+
+/// One batch pushed, in a slot's word, and one slot that a batch isn't pushed on, in its count.
+pub(crate) const ONE_PUSH: u64 = 1 << 32;
+
+/// One line, in the word of a member.
+pub(crate) const ONE_LINE: u64 = 1 << 16;
+
+/// Lines are numbered from 1 to this.
+pub const LINES: u64 = 20_000;
+
 /// Words of the table.
 pub(crate) const WORDS: usize = 168_088;

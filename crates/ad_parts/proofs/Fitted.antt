@@ -1,24 +1,31 @@
 -- Sections and symbols lie in the parts.
-use Rattle.std.proofs.Common.{◌≡◌, ◌≢◌, inl, inr, ℕ, zero, suc, ◌+◌, ◌*◌, ◌^◌, ◌<◌, ◌≤◌, true, cond, List, [], ◌∷◌, ◌++◌, append_assoc, get_or, length, Some, None, nat_lt, refl, sym, ap, ◌∙◌, arith}
-use Rattle.std.specs.List.{AllPairs, AllZip}
+use Rattle.std.proofs.Common.{◌≡◌, ◌≢◌, inl, inr, ℕ, zero, suc, ◌+◌, ◌*◌, ◌^◌, ◌<◌, ◌≤◌, true, cond, List, [], ◌∷◌, ◌++◌, append_assoc, filter, fold, sum_by, get_or, length, Option, Some, None, subst, nat_lt, refl, sym, ap, ◌∙◌, arith}
+use Rattle.std.specs.List.{All, AllPairs, AllZip}
 use Rattle.std.proofs.lemmas.Bool.{cases_Bool, ltb-false}
 use Rattle.std.proofs.lemmas.List.{append-nil}
+use Rattle.std.proofs.lemmas.List.Sums.{sum_by-cons}
 use Rattle.ad_base.specs.declared.layout.TheConstants.{PAGE_BYTES, PART_PAGES}
 use Rattle.ad_elf.specs.declared.object.Object.{Object}
 use Rattle.ad_elf.specs.declared.object.Section.{Section}
 use Rattle.ad_elf.specs.Range.{IsInRange}
-use Rattle.ad_parts.specs.Area.{area_of, group_of, is_same}
-use Rattle.ad_parts.specs.Ends.{AreEnds, AreShort, align_of, area_end, end_at, next}
-use Rattle.ad_parts.specs.Layout.{ends, fixed_pages, movable_pages, pages_of, pages_over, sizes, spot_at, spots, spots_behind, start_page}
+use Rattle.ad_parts.specs.Area.{area_in, area_of, group_of, is_movable, is_same}
+use Rattle.ad_parts.specs.Ends.{AreEnds, AreShort, align_of, area_end, end_at, end_of, is_aligned, next}
+use Rattle.ad_parts.specs.Layout.{area_bytes, ends, fixed_pages, movable_pages, pages_of, pages_over, sizes, spot_at, spots, spots_behind, start_page}
 use Rattle.ad_parts.specs.Private.Lying.{Lies}
-use Rattle.ad_parts.specs.Symbols.{AreInOrder, AreInside, LiesInPart}
+use Rattle.ad_parts.specs.Private.Lying.{AreInside}
+use Rattle.ad_parts.specs.Symbols.{AreInAreas, AreInOrder, LiesInArea}
+use Rattle.ad_parts.specs.Parts.{IsLayout, all_exports, export_row, misaligned, section_row}
+use Rattle.ad_parts.specs.declared.layout.Layout.{Layout}
+use Rattle.ad_parts.specs.declared.refusal.PartRefusal.TheVariants.{Alignment, TooManyPages}
+use Rattle.ad_parts.proofs.Arranged.{option_map_none}
+use Rattle.std.specs.Option.{option_map, option_or}
 use Rattle.ad_parts.specs.declared.area.Area.{Area}
 use Rattle.ad_parts.specs.declared.area.Area.TheVariants.{FixedReadOnly, FixedText, FixedWritable, Local, ReadOnly, Text, Writable}
 use Rattle.ad_parts.specs.declared.ends.Ends.{Ends}
 use Rattle.ad_parts.specs.declared.layout.Group.TheVariants as group
 use Rattle.ad_parts.specs.declared.layout.Sizes.{Sizes}
 use Rattle.ad_parts.specs.declared.layout.Spot.{Spot}
-use Rattle.ad_parts.proofs.Laid.{AreEnds-is, align_of-some, area_end-push, small_ends}
+use Rattle.ad_parts.proofs.Laid.{AreEnds-is, align_of-some, aligned_from, area_end-push, begin_le, small_ends}
 use Rattle.ad_parts.proofs.Next.{next-from}
 
 -- an area grows with its sections
@@ -54,18 +61,32 @@ pub record Fits (z : Sizes) (ss : List Section) : Type 0 where
   pub start : (a : Area) → start_page z a ≤ PART_PAGES
   pub low : (a : Area) → area_end a ss < 2 ^ 70
   pub inside : (a : Area) → group_of a ≢ group.Local → start_page z a * PAGE_BYTES + area_end a ss ≤ PART_PAGES * PAGE_BYTES
+  pub area : (a : Area) → area_end a ss ≤ area_bytes z a
 
-lies_one : (z : Sizes) (before : List Section) (s : Section) (ss : List Section) → area_end (area_of s) (before ++ s ∷ []) ≤ area_end (area_of s) ss → Fits z ss → Lies s (spot_at z (area_end (area_of s) before) s)
+area_in-self : (a : Area) → area_in (is_movable a) (group_of a) ≡ a
+area_in-self Text = refl
+area_in-self ReadOnly = refl
+area_in-self Local = refl
+area_in-self Writable = refl
+area_in-self FixedText = refl
+area_in-self FixedReadOnly = refl
+area_in-self FixedWritable = refl
+
+lies_one : (z : Sizes) (before : List Section) (s : Section) (ss : List Section) → area_end (area_of s) (before ++ s ∷ []) ≤ area_end (area_of s) ss → Fits z ss → Lies z s (spot_at z (area_end (area_of s) before) s)
 unfolding spot_at
 lies_one z before s ss upto fits =
     let end = end_of_one before s in
     record {
-      number = refl;
       begin = omega (arith, upto, end, fits.start (area_of s), fits.low (area_of s));
       inside = λ other. omega (arith, upto, end, fits.inside (area_of s) other);
+      area = record {
+        number = refl;
+        from = rw (area_in-self (area_of s)) (omega arith);
+        upto = rw (area_in-self (area_of s)) (omega (arith, upto, end, fits.area (area_of s)));
+      };
     }
 
-lies_behind : (z : Sizes) (before later ss : List Section) → before ++ later ≡ ss → Fits z ss → AllZip Lies later (spots_behind z before later)
+lies_behind : (z : Sizes) (before later ss : List Section) → before ++ later ≡ ss → Fits z ss → AllZip (Lies z) later (spots_behind z before later)
 unfolding spots_behind
 lies_behind z before [] ss whole fits = tt
 lies_behind z before (s ∷ later) ss whole fits =
@@ -114,6 +135,15 @@ ends_inside e few FixedText other = omega (arith, few.fixed, covers e.fixed_text
 ends_inside e few FixedReadOnly other = omega (arith, few.fixed, covers e.fixed_read)
 ends_inside e few FixedWritable other = omega (arith, few.fixed, covers e.fixed_data)
 
+ends_in_areas : (e : Ends) (a : Area) → end_at e a ≤ area_bytes (sizes e) a
+ends_in_areas e Text = covers e.text
+ends_in_areas e ReadOnly = covers e.read
+ends_in_areas e Local = omega arith
+ends_in_areas e Writable = covers e.«data»
+ends_in_areas e FixedText = covers e.fixed_text
+ends_in_areas e FixedReadOnly = covers e.fixed_read
+ends_in_areas e FixedWritable = covers e.fixed_data
+
 end_at-ends : (ss : List Section) (a : Area) → end_at (ends ss) a ≡ area_end a ss
 end_at-ends ss Text = refl
 end_at-ends ss ReadOnly = refl
@@ -130,10 +160,34 @@ fits_where_not_over ss fine small =
       start = starts (ends ss) few;
       low = λ a. rw (← end_at-ends ss a) (small a);
       inside = λ a other. rw (← end_at-ends ss a) (ends_inside (ends ss) few a other);
+      area = λ a. rw (← end_at-ends ss a) (ends_in_areas (ends ss) a);
     }
 
+-- where the sections of an area end, however many there are
+short_from : (a : Area) (at : ℕ) (ss : List Section) → All (λ (s : Section). is_aligned s ≡ true) ss
+    → fold (λ at (s : Section). next (align_of s) at + s.size) at (filter (λ (s : Section). is_same (area_of s) a) ss) ≤ at + sum_by (λ (s : Section). s.size) ss + 4096 * length ss
+short_from a at [] fine = omega arith
+short_from a at (s ∷ ss) fine =
+    let here : is_aligned s ≡ true = fine 0 s (omega arith) in
+    let later : All (λ (t : Section). is_aligned t ≡ true) ss = λ k d below. fine (suc k) d (omega arith) in
+    let sizes = sum_by-cons (λ (s : Section). s.size) s ss in
+    let with_it = short_from a (next (align_of s) at + s.size) ss later in
+    let without = short_from a at ss later in
+    elim (cases_Bool (is_same (area_of s) a)) [
+      | inl same ↦ (rw (same, sizes) (omega (arith, begin_le s at here, with_it)))
+      | inr other ↦ (rw (other, sizes) (omega (arith, without)))
+    ]
+
+short_area : (a : Area) (ss : List Section) → All (λ (s : Section). is_aligned s ≡ true) ss → area_end a ss ≤ sum_by (λ (s : Section). s.size) ss + 4096 * length ss
+unfolding end_of
+short_area a ss fine = omega (arith, short_from a 0 ss fine)
+
+option_or-none : {X : Type 0} (x y : Option X) → option_or x y ≡ None → (x ≡ None) × (y ≡ None)
+option_or-none None y e = (refl, e)
+option_or-none (Some x) y e = absurd (some_none x e)
+
 -- so the sections lie in their parts
-pub spots_lie : (o : Object) (e : Ends) → IsInRange o → AreEnds o.sections e → AreShort o.sections e → pages_over e ≡ None → AllZip Lies o.sections (spots o.sections)
+pub spots_lie : (o : Object) (e : Ends) → IsInRange o → AreEnds o.sections e → AreShort o.sections e → pages_over e ≡ None → AllZip (Lies (sizes (ends o.sections))) o.sections (spots o.sections)
 spots_lie o e h are short fine =
     let same = AreEnds-is o.sections e are in
     let over : pages_over (ends o.sections) ≡ None = ap pages_over (sym same) ∙ fine in
@@ -163,20 +217,50 @@ zip-weaker R S more [] (y ∷ ys) all = absurd all
 zip-weaker R S more (x ∷ xs) [] all = absurd all
 zip-weaker R S more (x ∷ xs) (y ∷ ys) all = (more x y all.0, zip-weaker R S more xs ys all.1)
 
-pub lie_in_parts : (ss : List Section) (ts : List Spot) → AllZip Lies ss ts → AllZip LiesInPart ss ts
-lie_in_parts ss ts all = zip-weaker Lies LiesInPart (λ s t l. l.inside) ss ts all
+pub lie_in_areas : (z : Sizes) (ss : List Section) (ts : List Spot) → AllZip (Lies z) ss ts → AllZip (LiesInArea z) ss ts
+lie_in_areas z ss ts all = zip-weaker (Lies z) (LiesInArea z) (λ s t l. l.area) ss ts all
 
-pub lie_in_order : (ss : List Section) (ts : List Spot) → AllPairs (λ (s t : Section). s.index < t.index) ss → AllZip Lies ss ts → AreInOrder ts
-lie_in_order ss ts rise all = record {
+pub lie_in_order : (z : Sizes) (ss : List Section) (ts : List Spot) → AllPairs (λ (s t : Section). s.index < t.index) ss → AllZip (Lies z) ss ts → AreInOrder ts
+lie_in_order z ss ts rise all = record {
   rise = λ i j d less below.
-      let here = zip-at Lies ss ts i no_section d all (omega arith) in
-      let there = zip-at Lies ss ts j no_section d all below in
-      omega (arith, here.number, there.number, rise i j no_section less (omega (arith, zip-length Lies ss ts all)));
-  begin = λ k d below. (zip-at Lies ss ts k no_section d all below).begin;
+      let here = zip-at (Lies z) ss ts i no_section d all (omega arith) in
+      let there = zip-at (Lies z) ss ts j no_section d all below in
+      omega (arith, here.area.number, there.area.number, rise i j no_section less (omega (arith, zip-length (Lies z) ss ts all)));
+  begin = λ k d below. (zip-at (Lies z) ss ts k no_section d all below).begin;
 }
 
-pub symbols_inside : (o : Object) (ts : List Spot) → IsInRange o → AllZip Lies o.sections ts → AreInside ts o.symbols
-symbols_inside o ts h all = λ j y from below defined k d less here other.
-    let lies = zip-at Lies o.sections ts k no_section d all less in
-    let value = h.symbols_in j y from below defined k no_section (omega (arith, zip-length Lies o.sections ts all)) (sym lies.number ∙ here) in
+pub symbols_inside : (z : Sizes) (o : Object) (ts : List Spot) → IsInRange o → AllZip (Lies z) o.sections ts → AreInside ts o.symbols
+symbols_inside z o ts h all = λ j y from below defined k d less here other.
+    let lies = zip-at (Lies z) o.sections ts k no_section d all less in
+    let value = h.symbols_in j y from below defined k no_section (omega (arith, zip-length (Lies z) o.sections ts all)) (sym lies.area.number ∙ here) in
     omega (arith, lies.inside other, value)
+
+pub symbols_in_areas : (z : Sizes) (o : Object) (ts : List Spot) → IsInRange o → AllZip (Lies z) o.sections ts → AreInAreas z ts o.symbols
+symbols_in_areas z o ts h all = λ j y from below defined k d less here.
+    let lies = zip-at (Lies z) o.sections ts k no_section d all less in
+    let value = h.symbols_in j y from below defined k no_section (omega (arith, zip-length (Lies z) o.sections ts all)) (sym lies.area.number ∙ here) in
+    omega (arith, lies.area.upto, value)
+
+-- none of the ends is far behind the sizes
+pub short_ends : (ss : List Section) → All (λ (s : Section). is_aligned s ≡ true) ss → AreShort ss (ends ss)
+short_ends ss fine = record { each_one = λ a. rw (end_at-ends ss a) (short_area a ss fine) }
+
+-- the layout of an object has its sections in their areas
+pub layout_lies : (o : Object) (l : Layout) → IsInRange o → IsLayout o l → AllZip (Lies l.sizes) o.sections l.spots
+layout_lies o l h laid =
+    let rows = option_or-none (section_row o) (export_row (all_exports o)) laid.no_row in
+    let parts = option_or-none (option_map (λ (s : Section). Alignment s.index) (misaligned o)) (option_map TooManyPages (pages_over (ends o.sections))) rows.0 in
+    let fine = aligned_from o.sections (option_map_none (λ (s : Section). Alignment s.index) (misaligned o) parts.0) in
+    let over = option_map_none TooManyPages (pages_over (ends o.sections)) parts.1 in
+    let lie = spots_lie o (ends o.sections) h (record { each_one = end_at-ends o.sections }) (short_ends o.sections fine) over in
+    let sized = subst (λ (z : Sizes). AllZip (Lies z) o.sections (spots o.sections)) (sym laid.sizes_laid) lie in
+    subst (λ (ts : List Spot). AllZip (Lies l.sizes) o.sections ts) (sym laid.spots_laid) sized
+
+pub law_order : (o : Object) (l : Layout) → IsInRange o → IsLayout o l → AreInOrder l.spots
+law_order o l h laid = lie_in_order l.sizes o.sections l.spots h.indexes_rise (layout_lies o l h laid)
+
+pub law_sections : (o : Object) (l : Layout) → IsInRange o → IsLayout o l → AllZip (LiesInArea l.sizes) o.sections l.spots
+law_sections o l h laid = lie_in_areas l.sizes o.sections l.spots (layout_lies o l h laid)
+
+pub law_symbols : (o : Object) (l : Layout) → IsInRange o → IsLayout o l → AreInAreas l.sizes l.spots o.symbols
+law_symbols o l h laid = symbols_in_areas l.sizes o l.spots h (layout_lies o l h laid)

@@ -42,6 +42,17 @@ group_of Local = group.Local
 group_of Writable = group.Writable
 group_of FixedWritable = group.Writable
 
+-- the area of a group of one of the parts; the immovable part has no local area
+abbrev pub area_in : Bool → Group → Area
+area_in true group.Text = Text
+area_in true group.ReadOnly = ReadOnly
+area_in true group.Local = Local
+area_in true group.Writable = Writable
+area_in false group.Text = FixedText
+area_in false group.ReadOnly = FixedReadOnly
+area_in false group.Local = Local
+area_in false group.Writable = FixedWritable
+
 -- the two areas are one
 abbrev pub is_same : Area → Area → Bool
 is_same Text Text = true

@@ -61,6 +61,23 @@ start_page z FixedText = 0
 start_page z FixedReadOnly = z.fixed_text_pages + STUB_PAGES
 start_page z FixedWritable = z.fixed_text_pages + STUB_PAGES + z.fixed_read_pages + TABLE_PAGES
 
+-- how many bytes an area has: those of its pages, and the local area those of its sections
+abbrev pub area_bytes : Sizes → Area → ℕ
+area_bytes z Text = z.text_pages * PAGE_BYTES
+area_bytes z ReadOnly = z.read_pages * PAGE_BYTES
+area_bytes z Local = z.local_bytes
+area_bytes z Writable = z.data_pages * PAGE_BYTES
+area_bytes z FixedText = z.fixed_text_pages * PAGE_BYTES
+area_bytes z FixedReadOnly = z.fixed_read_pages * PAGE_BYTES
+area_bytes z FixedWritable = z.fixed_data_pages * PAGE_BYTES
+
+-- the bytes of its part at which an area begins and ends
+abbrev pub area_from : Sizes → Area → ℕ
+area_from z a = start_page z a * PAGE_BYTES
+
+abbrev pub area_to : Sizes → Area → ℕ
+area_to z a = area_from z a + area_bytes z a
+
 -- where a section goes whose area ended there before it
 unfoldable pub spot_at : Sizes → ℕ → Section → Spot
 spot_at z end s = record {

@@ -1,23 +1,30 @@
 -- Where the symbols of an object are, and which of them are exports.
-use Rattle.std.specs.Prelude.{◌≡◌, ◌≢◌, ℕ, ◌+◌, ◌*◌, ◌^◌, ◌==◌, ◌<◌, ◌≤◌, ◌&&◌, ◌||◌, Bool, true, false, List, [], drop, take, find, filter_map, length, slice_index_or, Option, Some, None, option_and_then, if◌then◌else◌}
+use Rattle.std.specs.Prelude.{◌≡◌, ◌≢◌, ℕ, ◌+◌, ◌^◌, ◌==◌, ◌<◌, ◌≤◌, ◌&&◌, ◌||◌, Bool, true, false, List, [], drop, take, find, filter_map, length, slice_index_or, Option, Some, None, option_and_then, if◌then◌else◌}
 use Rattle.std.specs.List.{All, AllPairs, AllWithin, list_any, slice_get}
 use Rattle.std.specs.Option.{option_map}
 use Rattle.std.specs.Str.{bytes_eq}
 use Rattle.ad_base.specs.declared.image.Export.{Export}
-use Rattle.ad_base.specs.declared.layout.TheConstants.{PAGE_BYTES, PART_PAGES}
 use Rattle.ad_elf.specs.declared.elf.TheConstants.{SHN_UNDEF, STB_GLOBAL, STT_FUNC, STT_NOTYPE}
 use Rattle.ad_elf.specs.declared.object.Section.{Section}
 use Rattle.ad_elf.specs.declared.object.Symbol.{Symbol}
 use Rattle.ad_elf.specs.Below.{first}
+use Rattle.ad_parts.specs.Area.{area_in}
+use Rattle.ad_parts.specs.Layout.{area_from, area_to}
+use Rattle.ad_parts.specs.declared.area.Area.{Area}
 use Rattle.ad_parts.specs.declared.layout.Group.{Group}
+use Rattle.ad_parts.specs.declared.layout.Sizes.{Sizes}
 use Rattle.ad_parts.specs.declared.layout.Group.TheVariants as group
 use Rattle.ad_parts.specs.declared.layout.Spot.{Spot}
 use Rattle.ad_parts.specs.declared.position.Position.{Position}
 
+-- the spot of the section of this number
+abbrev pub spot_of : List Spot → ℕ → Option Spot
+spot_of spots number = find (λ (t : Spot). t.section == number) spots
+
 -- The spot of the section that a symbol is defined in (gABI, "Symbol Table"): none for a symbol that is undefined, and for
 -- one whose number names no section that is kept, as that of a number doesn't.
 unfoldable pub home : List Spot → Symbol → Option Spot
-home spots y = if y.shndx == SHN_UNDEF then None else find (λ (t : Spot). t.section == y.shndx) spots
+home spots y = if y.shndx == SHN_UNDEF then None else spot_of spots y.shndx
 
 -- Where symbol j is: in the part of its section, behind the section's offset. Symbol 0 is nowhere.
 abbrev pub position_at : Symbol → Spot → Position
@@ -68,18 +75,19 @@ pub record AreInOrder (spots : List Spot) : Type 0 where
   pub rise : AllPairs (λ (t u : Spot). t.section < u.section) spots
   pub begin : All (λ (t : Spot). t.offset < 2 ^ 127) spots
 
--- The number of bytes from the start of a part is inside it, or its end. What the local area may have is seen later, with
--- the words of its table.
-abbrev pub IsInPart : Spot → ℕ → Type 0
-IsInPart t end = t.group ≢ group.Local → end ≤ PART_PAGES * PAGE_BYTES
+-- the area that a section was put in
+abbrev pub area_at : Spot → Area
+area_at t = area_in t.movable t.group
 
--- the section ends in its part
-abbrev pub LiesInPart : Section → Spot → Type 0
-LiesInPart s t = IsInPart t (t.offset + s.size)
+-- The section lies in its area. What the local area may have is seen later, with the words of its table.
+pub record LiesInArea (z : Sizes) (s : Section) (t : Spot) : Type 0 where
+  pub number : t.section ≡ s.index
+  pub from : area_from z (area_at t) ≤ t.offset
+  pub upto : t.offset + s.size ≤ area_to z (area_at t)
 
--- A symbol that is defined in a section is in its part, or at its end.
-abbrev pub IsInside : List Spot → Symbol → Type 0
-IsInside spots y = y.shndx ≢ SHN_UNDEF → All (λ (t : Spot). t.section ≡ y.shndx → IsInPart t (t.offset + y.value)) spots
+-- A symbol that is defined in a section is in its area, or at its end.
+abbrev pub IsInArea : Sizes → List Spot → Symbol → Type 0
+IsInArea z spots y = y.shndx ≢ SHN_UNDEF → All (λ (t : Spot). t.section ≡ y.shndx → t.offset + y.value ≤ area_to z (area_at t)) spots
 
-abbrev pub AreInside : List Spot → List Symbol → Type 0
-AreInside spots ys = AllWithin (IsInside spots) ys 1 (length ys)
+abbrev pub AreInAreas : Sizes → List Spot → List Symbol → Type 0
+AreInAreas z spots ys = AllWithin (IsInArea z spots) ys 1 (length ys)

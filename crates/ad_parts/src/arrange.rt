@@ -28,7 +28,7 @@ pub(crate) fn lay_out(alloc: Global, object: &Object) -> Result<Placed, PartRefu
     requires { IsInRange object.now }
     ensures fine { OnOk result (section_row object.now ≡ None) }
     ensures spots { IfOk result (λ p. p.spots.items ≡ spots object.now.sections) }
-    ensures lie { IfOk result (λ p. AllZip Lies object.now.sections p.spots.items) }
+    ensures lie { IfOk result (λ p. AllZip (Lies p.sizes) object.now.sections p.spots.items) }
     ensures sizes { IfOk result (λ p. p.sizes ≡ sizes (ends object.now.sections)) }
     ensures refused { IfErr result (λ r. (r ≡ MemoryWanted) ⊎ (section_row object.now ≡ Some r)) }
 {

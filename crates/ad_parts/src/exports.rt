@@ -1,7 +1,8 @@
 //! The exports of an object.
 
 ghost use Rattle.std.specs.Prelude.{◌≡◌, ◌+◌, ◌<◌, ◌++◌, ◌∷◌, [], IfOk, IfSome, OnOk, filter_map, length};
-ghost use Rattle.ad_parts.specs.Symbols.{AreInOrder, AreInside, IsInPart, IsInside, export, export_at, exports, first_repeated, is_callable, is_text};
+ghost use Rattle.ad_parts.specs.Private.Lying.{AreInside, IsInPart, IsInside};
+ghost use Rattle.ad_parts.specs.Symbols.{AreInOrder, export, export_at, exports, first_repeated, is_callable, is_text};
 
 use crate::layout::{Group, Spot};
 use crate::position::home;

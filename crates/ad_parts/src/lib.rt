@@ -14,7 +14,7 @@ mod splitting;
 #[cfg(test)]
 mod tests;
 
-pub use laws::law_next;
+pub use laws::{law_areas, law_next};
 pub use layout::{Group, Layout, Sizes, Spot};
 pub use position::Position;
 pub use refusal::PartRefusal;

@@ -1,8 +1,7 @@
 //! Where a symbol is.
 
-ghost use Rattle.std.specs.Prelude.{◌≡◌, ◌≢◌, ◌<◌, ◌^◌, ◌==◌, Contains, IfSome, OnSome, find};
-ghost use Rattle.ad_parts.specs.declared.layout.Spot.{Spot};
-ghost use Rattle.ad_parts.specs.Symbols.{AreInOrder, home, position, symbol_position};
+ghost use Rattle.std.specs.Prelude.{◌≡◌, ◌≢◌, ◌<◌, ◌^◌, Contains, IfSome, OnSome};
+ghost use Rattle.ad_parts.specs.Symbols.{AreInOrder, home, position, spot_of, symbol_position};
 
 use crate::layout::{Layout, Spot};
 use ad_elf::{Object, SHN_UNDEF, Symbol};
@@ -17,6 +16,15 @@ pub struct Position {
 }
 
 impl Layout {
+    /// Where the section of this number goes, if it is one of the object's. It is found by halving.
+    pub fn spot(&self, section: u64) -> Option<Spot>
+        requires { AreInOrder self.now.spots }
+        ensures value { result ≡ spot_of self.now.spots section }
+        ensures among { IfSome result (λ t. Contains self.now.spots t) }
+    {
+        spot_of(self.spots.as_slice(), section)
+    }
+
     /// Where symbol `number` of the object is that is laid out so: in one of the two parts, or nowhere,
     /// as one that is undefined, and one that is a number. Its section is found by halving.
     pub fn position(&self, object: &Object, number: u64) -> Option<Position>
@@ -66,7 +74,7 @@ fn spot_of(spots: &[Spot], number: u64) -> Option<Spot>
     ensures number { IfSome result (λ t. t.section ≡ number) }
     ensures among { IfSome result (λ t. Contains spots.now t) }
     ensures begin { IfSome result (λ t. t.offset < 2 ^ 127) }
-    ensures value { result ≡ find (λ (t : Spot). t.section == number) spots.now }
+    ensures value { result ≡ spot_of spots.now number }
 {
     match spots.binary_search_by_key(&number, |spot| spot.section) {
         Ok(k) => Some(spots[k]),

@@ -6,7 +6,8 @@ ghost use Rattle.ad_elf.specs.Range.{IsInRange};
 ghost use Rattle.ad_parts.specs.declared.refusal.PartRefusal.TheVariants.{OutOfMemory as MemoryWanted};
 ghost use Rattle.ad_parts.specs.Layout.{ends, sizes, spots};
 ghost use Rattle.ad_parts.specs.Parts.{IsLayout, IsRefused, export_row, section_row};
-ghost use Rattle.ad_parts.specs.Symbols.{AreInOrder, AreInside, LiesInPart};
+ghost use Rattle.ad_parts.specs.Private.Lying.{AreInside};
+ghost use Rattle.ad_parts.specs.Symbols.{AreInAreas, AreInOrder, LiesInArea};
 
 use crate::arrange::{Placed, lay_out};
 use crate::exports::{exports_of, first_repeated};
@@ -23,8 +24,8 @@ pub fn split(alloc: Global, object: &Object) -> Result<Layout, PartRefusal>
     requires { IsInRange object.now }
     ensures laid { IfOk result (λ l. IsLayout object.now l) }
     ensures order { IfOk result (λ l. AreInOrder l.spots) }
-    ensures sections { IfOk result (λ l. AllZip LiesInPart object.now.sections l.spots) }
-    ensures symbols { IfOk result (λ l. AreInside l.spots object.now.symbols) }
+    ensures sections { IfOk result (λ l. AllZip (LiesInArea l.sizes) object.now.sections l.spots) }
+    ensures symbols { IfOk result (λ l. AreInAreas l.sizes l.spots object.now.symbols) }
     ensures refused { IfErr result (λ r. (r ≡ MemoryWanted) ⊎ IsRefused object.now r) }
 {
     match lay_out(alloc, object) {
@@ -41,7 +42,6 @@ fn with_exports(alloc: Global, object: &Object, placed: Placed) -> Result<Layout
     requires order { AreInOrder placed.spots.items }
     requires symbols { AreInside placed.spots.items object.now.symbols }
     ensures laid { IfOk result (λ l. IsLayout object.now l) }
-    ensures same { IfOk result (λ l. l.spots ≡ placed.spots.items) }
     ensures refused { IfErr result (λ r. (r ≡ MemoryWanted) ⊎ IsRefused object.now r) }
 {
     let exports = exports_of(alloc, placed.spots.as_slice(), object.symbols.as_slice())?;

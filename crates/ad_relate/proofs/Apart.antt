@@ -14,7 +14,7 @@ use Rattle.ad_base.specs.Layout.{extents_from, fixed_roles, movable_roles, right
 use Rattle.ad_base.specs.Place.{IsPlace, base_of}
 use Rattle.ad_base.specs.Segments.{Extent, Segment, extent_of, extents, holding, holds}
 use Rattle.ad_symbolic.specs.AddressSpace.{AddressSpace}
-use Rattle.ad_symbolic.specs.Value.{Byte}
+use Rattle.ad_symbolic.specs.declared.byte.Byte.{Byte}
 use Rattle.ad_relate.specs.Stands.{Fits, IsApart, Places, byte_at, segment_at, segments_at}
 
 -- the address is none of the place's bytes
@@ -147,6 +147,16 @@ module _ (space : AddressSpace) (ps : Places) where
 
     none-movable : (at : ℕ) → Misses ps.movable at → holding (fixed_segments ++ movable_segments) at ≡ holding fixed_segments at
     none-movable at no_movable = find-first (holds at) fixed_segments movable_segments (holding-missed ps.movable movable_segments at fills-movable no_movable)
+
+    -- each part holds no address of another region
+    pub stack-misses : (region at : ℕ) → region ≢ ps.stack.region → IsIn region at → holding stack_segments at ≡ None
+    stack-misses region at other here = holding-missed ps.stack stack_segments at fills-stack (elsewhere ps.stack region at apart.stack other here)
+
+    pub fixed-misses : (region at : ℕ) → region ≢ space.image.fixed.region → IsIn region at → holding fixed_segments at ≡ None
+    fixed-misses region at other here = holding-missed space.image.fixed fixed_segments at fills-fixed (elsewhere space.image.fixed region at apart.whole.fixed_place.place other here)
+
+    pub movable-misses : (region at : ℕ) → region ≢ ps.movable.region → IsIn region at → holding movable_segments at ≡ None
+    movable-misses region at other here = holding-missed ps.movable movable_segments at fills-movable (elsewhere ps.movable region at apart.movable.place other here)
 
     -- each part is alone in its region
     pub movable-alone : IsAlone (segments_at ps space) movable_segments ps.movable

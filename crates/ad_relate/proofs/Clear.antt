@@ -13,7 +13,8 @@ use Rattle.ad_base.specs.Place.{base_of}
 use Rattle.ad_core.specs.Plain as machine
 use Rattle.ad_core.specs.Turn.{plain}
 use Rattle.ad_isa.specs.Finish.{Aborts, Ends, Finish, Returns}
-use Rattle.ad_symbolic.specs.Value.{Byte, Number, OfAddress}
+use Rattle.ad_symbolic.specs.declared.byte.Byte.{Byte}
+use Rattle.ad_symbolic.specs.declared.byte.Byte.TheVariants.{Number, OfAddress}
 use Rattle.ad_symbolic.specs.declared.value.Value.TheVariants.{At, Num}
 use Rattle.ad_symbolic.specs.declared.value.Value.{Value}
 use Rattle.ad_symbolic.specs.AddressSpace.{AddressSpace, numbers_of, space_of}

@@ -17,7 +17,9 @@ use Rattle.ad_isa.specs.Step.{Found, Word}
 use Rattle.ad_core.specs.declared.bus.Fetched.TheVariants as fetch
 use Rattle.ad_core.specs.Memory.{fetched, number_in, service_or, word_of}
 use Rattle.ad_core.specs.Plain.{found_or_end}
-use Rattle.ad_symbolic.specs.Value.{Byte, Number, OfAddress, is_outside, offset_of}
+use Rattle.ad_symbolic.specs.Value.{is_outside, offset_of}
+use Rattle.ad_symbolic.specs.declared.byte.Byte.{Byte}
+use Rattle.ad_symbolic.specs.declared.byte.Byte.TheVariants.{Number, OfAddress}
 use Rattle.ad_symbolic.specs.declared.value.Reason.TheVariants.{Address}
 use Rattle.ad_symbolic.specs.declared.value.Value.TheVariants.{At, Num}
 use Rattle.ad_symbolic.specs.declared.value.Part.TheVariants.{Movable, Stack}
@@ -29,6 +31,11 @@ use Rattle.ad_symbolic.specs.AddressSpace as symbolic
 use Rattle.ad_relate.specs.Stands.{Fits, IsApart, Places, base_at, byte_at, number_at, segment_at, segments_at}
 use Rattle.ad_relate.proofs.Apart.{IsAlone, IsIn, Misses, fixed-alone, holding-missed, holding-none, movable-alone, part_at, stack-alone}
 use Rattle.ad_relate.proofs.Values.{alignment, if-apart, if-each}
+
+-- the region of a part
+abbrev pub region_at : Places → Part → ℕ
+region_at ps Movable = ps.movable.region
+region_at ps Stack = ps.stack.region
 
 -- the segment that is reached, so many bytes further on, or the same end
 abbrev pub reached_at : Places → ℕ → Result (Segment Byte) End → Result (Segment ℕ) End
@@ -50,11 +57,11 @@ number_reach wanted s n =
     else (if nat_le (base_of s.image.fixed) n && nat_lt n (base_of s.image.fixed + s.image.fixed.pages * PAGE_BYTES) then Ok (with_right wanted (holding s.fixed n))
     else Err Address)
 
--- What is reached from an offset or number is what is reached at the address, which lies so many bytes further on if there
--- is a segment.
-pub record IsReached (ps : Places) (wanted : Use) (segments : List (Segment ℕ)) (shift o at : ℕ) (r : Result (Segment Byte) End) : Type 0 where
+-- What is reached from an offset or number is what is reached at the address, which lies so many bytes further on, in this
+-- region, if there is a segment.
+pub record IsReached (ps : Places) (wanted : Use) (segments : List (Segment ℕ)) (region shift o at : ℕ) (r : Result (Segment Byte) End) : Type 0 where
   pub same : aligned_reach wanted segments at ≡ reached_at ps shift r
-  pub further : IfOk r (λ s. at ≡ shift + o)
+  pub further : IfOk r (λ s. (at ≡ shift + o) × IsIn region at)
 
 -- behind region 1 the segment that holds the address counts
 reach-behind : (wanted : Use) (segments : List (Segment ℕ)) (at : ℕ) → MODULE_REGION * REGION_BYTES ≤ at → aligned_reach wanted segments at ≡ with_right wanted (holding segments at)
@@ -91,24 +98,24 @@ module _ (ps : Places) (wanted : Use) where
     behind at here = omega (arith, only.fills.place.region_from, here.from)
 
     -- an address in the region of a part reaches what its offset reaches
-    reaches-alone : (o at : ℕ) → at ≡ shift + o → IsIn q.region at → IsReached ps wanted segments shift o at (with_right wanted (holding part o))
+    reaches-alone : (o at : ℕ) → at ≡ shift + o → IsIn q.region at → IsReached ps wanted segments q.region shift o at (with_right wanted (holding part o))
     reaches-alone o at e here = record {
       same = reach-behind wanted segments at (behind at here) ∙ ap (with_right wanted) (only.alone at here) ∙ ap (λ n. with_right wanted (holding (part_at ps shift part) n)) e ∙ right-at shift o part;
       further = further (with_right wanted (holding part o));
     }
       where
-        further : (r : Result (Segment Byte) End) → IfOk r (λ s. at ≡ shift + o)
-        further (Ok s) = e
+        further : (r : Result (Segment Byte) End) → IfOk r (λ s. (at ≡ shift + o) × IsIn q.region at)
+        further (Ok s) = (e, here)
         further (Err end) = tt
 
     -- one that is beside the part is a fault
-    fault-beside : (o at : ℕ) → IsIn q.region at → Misses q at → IsReached ps wanted segments shift o at (Err ends.Fault)
+    fault-beside : (o at : ℕ) → IsIn q.region at → Misses q at → IsReached ps wanted segments q.region shift o at (Err ends.Fault)
     fault-beside o at here beside = record { same = reach-none wanted segments at (only.alone at here ∙ holding-missed q (part_at ps shift part) at only.fills beside); further = tt }
 
   module _ (segments : List (Segment ℕ)) (q : Place) (part : List (Segment Byte)) (only : IsAlone segments (part_at ps (base_of q) part) q) where
     -- what an offset of the part reaches is reached at its address, which lies behind region 1
     abbrev OffsetReached : ℕ → Result (Segment Byte) End → Type 0
-    OffsetReached o r = IsReached ps wanted segments (base_of q) o ((base_of q + o) % 2 ^ 64) r × (MODULE_REGION * REGION_BYTES ≤ (base_of q + o) % 2 ^ 64)
+    OffsetReached o r = IsReached ps wanted segments q.region (base_of q) o ((base_of q + o) % 2 ^ 64) r × (MODULE_REGION * REGION_BYTES ≤ (base_of q + o) % 2 ^ 64)
 
     -- an offset inside the part, or less than a page behind it
     whole : (o : ℕ) → o < q.pages * PAGE_BYTES + PAGE_BYTES → (base_of q + o) % 2 ^ 64 ≡ base_of q + o
@@ -157,7 +164,7 @@ module _ (ps : Places) (wanted : Use) where
 module _ (space : AddressSpace) (ps : Places) (apart : IsApart space.image ps) (fits : Fits space) (wanted : Use) where
   -- what an offset of a part reaches
   pub reaches-part : (p : Part) (o : ℕ) → o < 2 ^ 64 → IfOk (offset_reach wanted (part_bytes space.image p) (segments_in space p) o)
-      (λ r. IsReached ps wanted (segments_at ps space) (base_at ps p) o (number_at ps (At p o)) r × (MODULE_REGION * REGION_BYTES ≤ number_at ps (At p o)))
+      (λ r. IsReached ps wanted (segments_at ps space) (region_at ps p) (base_at ps p) o (number_at ps (At p o)) r × (MODULE_REGION * REGION_BYTES ≤ number_at ps (At p o)))
   reaches-part Movable o below =
       subst (λ pages. IfOk (offset_reach wanted (pages * PAGE_BYTES) space.movable o) (OffsetReached ps wanted (segments_at ps space) ps.movable space.movable (movable-alone space ps apart fits) o)) apart.movable_size
       (reaches-offset ps wanted (segments_at ps space) ps.movable space.movable (movable-alone space ps apart fits) o below)
@@ -174,10 +181,10 @@ module _ (space : AddressSpace) (ps : Places) (apart : IsApart space.image ps) (
       record { from = omega (arith, low); to = omega (arith, high, place.page_behind) }
 
   -- what a number reaches
-  pub reaches-number : (n : ℕ) → IfOk (number_reach wanted space n) (IsReached ps wanted (segments_at ps space) 0 n n)
+  pub reaches-number : (n : ℕ) → IfOk (number_reach wanted space n) (IsReached ps wanted (segments_at ps space) space.image.fixed.region 0 n n)
   reaches-number n =
       let q = space.image.fixed in
-      let P : Result (Result (Segment Byte) End) Reason → Type 0 = λ x. IfOk x (IsReached ps wanted (segments_at ps space) 0 n n) in
+      let P : Result (Result (Segment Byte) End) Reason → Type 0 = λ x. IfOk x (IsReached ps wanted (segments_at ps space) space.image.fixed.region 0 n n) in
       cond_both (is_outside n) _ _ P
       (λ out. record { same = reach-none wanted (segments_at ps space) n (holding-none space ps apart fits n (grind (arith, nat_tests))); further = tt })
       (λ in_regions. cond_both (nat_le (base_of q) n && nat_lt n (base_of q + q.pages * PAGE_BYTES)) _ _ P
@@ -189,7 +196,7 @@ more-numbers : (n : ℕ) (x : Result (List ℕ) Reason) (ys : List ℕ) → IfOk
 more-numbers n (Ok ns) ys h = ap (λ ms. n ∷ ms) h
 more-numbers n (Err reason) ys h = tt
 
-numbers : (ps : Places) (bs : List Byte) → IfOk (all_numbers bs) (λ ns. map (byte_at ps) bs ≡ ns)
+pub numbers : (ps : Places) (bs : List Byte) → IfOk (all_numbers bs) (λ ns. map (byte_at ps) bs ≡ ns)
 numbers ps [] = refl
 numbers ps (Number n ∷ bs) = more-numbers n (all_numbers bs) (map (byte_at ps) bs) (numbers ps bs)
 numbers ps (OfAddress i p o ∷ bs) = tt
@@ -244,10 +251,10 @@ fetched-behind segments at from aligned =
     ∙ found-aligned segments at aligned
 
 -- what is found where this is reached
-finds-reached : (ps : Places) (segments : List (Segment ℕ)) (shift o at : ℕ) (r : Result (Segment Byte) End) → IsReached ps Fetch segments shift o at r → Finds (reached_then (Ok r) (word_from o)) (word_or_end at (aligned_reach Fetch segments at))
-finds-reached ps segments shift o at (Ok s) is =
-    subst (λ x. Finds (word_from o s) (word_or_end at x)) (sym is.same) (word-at ps shift o at s is.further)
-finds-reached ps segments shift o at (Err end) is = ap (word_or_end at) is.same
+finds-reached : (ps : Places) (segments : List (Segment ℕ)) (region shift o at : ℕ) (r : Result (Segment Byte) End) → IsReached ps Fetch segments region shift o at r → Finds (reached_then (Ok r) (word_from o)) (word_or_end at (aligned_reach Fetch segments at))
+finds-reached ps segments region shift o at (Ok s) is =
+    subst (λ x. Finds (word_from o s) (word_or_end at x)) (sym is.same) (word-at ps shift o at s is.further.0)
+finds-reached ps segments region shift o at (Err end) is = ap (word_or_end at) is.same
 
 module _ (space : AddressSpace) (ps : Places) (apart : IsApart space.image ps) (fits : Fits space) where
   -- what is found where the plain machine fetches
@@ -255,18 +262,18 @@ module _ (space : AddressSpace) (ps : Places) (apart : IsApart space.image ps) (
   there at = found_or_end (fetched (segments_at ps space) at)
 
   finds-offset : (p : Part) (o : ℕ) (r : Result (Result (Segment Byte) End) Reason) → number_at ps (At p o) % FETCH_BYTES ≡ 0
-      → IfOk r (λ r. IsReached ps Fetch (segments_at ps space) (base_at ps p) o (number_at ps (At p o)) r × (MODULE_REGION * REGION_BYTES ≤ number_at ps (At p o)))
+      → IfOk r (λ r. IsReached ps Fetch (segments_at ps space) (region_at ps p) (base_at ps p) o (number_at ps (At p o)) r × (MODULE_REGION * REGION_BYTES ≤ number_at ps (At p o)))
       → Finds (reached_then r (word_from o)) (there (number_at ps (At p o)))
   finds-offset p o (Ok r) aligned is =
       let at = number_at ps (At p o) in
-      subst (λ x. Finds (reached_then (Ok r) (word_from o)) x) (sym (fetched-behind (segments_at ps space) at is.1 aligned)) (finds-reached ps (segments_at ps space) (base_at ps p) o at r is.0)
+      subst (λ x. Finds (reached_then (Ok r) (word_from o)) x) (sym (fetched-behind (segments_at ps space) at is.1 aligned)) (finds-reached ps (segments_at ps space) (region_at ps p) (base_at ps p) o at r is.0)
   finds-offset p o (Err reason) aligned is = tt
 
-  finds-number : (n : ℕ) (r : Result (Result (Segment Byte) End) Reason) (service : Option ℕ) → n % FETCH_BYTES ≡ 0 → IfOk r (IsReached ps Fetch (segments_at ps space) 0 n n)
+  finds-number : (n : ℕ) (r : Result (Result (Segment Byte) End) Reason) (service : Option ℕ) → n % FETCH_BYTES ≡ 0 → IfOk r (IsReached ps Fetch (segments_at ps space) space.image.fixed.region 0 n n)
       → Finds (symbolic.service_or service (reached_then r (word_from n))) (found_or_end (service_or service (word_of n (reach Fetch FETCH_BYTES (segments_at ps space) n))))
   finds-number n r (Some number) aligned is = refl
   finds-number n (Ok r) None aligned is =
-      subst (λ x. Finds (reached_then (Ok r) (word_from n)) x) (sym (found-aligned (segments_at ps space) n aligned)) (finds-reached ps (segments_at ps space) 0 n n r is)
+      subst (λ x. Finds (reached_then (Ok r) (word_from n)) x) (sym (found-aligned (segments_at ps space) n aligned)) (finds-reached ps (segments_at ps space) space.image.fixed.region 0 n n r is)
   finds-number n (Err reason) None aligned is = tt
 
   -- where the symbolic machine has a clear answer, the plain machine has the same

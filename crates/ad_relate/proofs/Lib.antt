@@ -1,7 +1,10 @@
 pub mod Values
 pub mod Parts
 pub mod Apart
+pub mod Comparisons
+pub mod Sizes
 pub mod Fetch
+pub mod Access
 pub mod Steps
 pub mod Runs
 pub mod Clear

@@ -16,7 +16,8 @@ use Rattle.ad_base.proofs.Extents.{extents-laid_out}
 use Rattle.ad_base.proofs.Lists.{length-filled, length-flat_map_equal}
 use Rattle.ad_base.proofs.Pieces.{length-bytes_of}
 use Rattle.ad_core.specs.Image.{bytes_under, segments_of, fresh_stack as zero_stack}
-use Rattle.ad_symbolic.specs.Value.{Byte, Number}
+use Rattle.ad_symbolic.specs.declared.byte.Byte.{Byte}
+use Rattle.ad_symbolic.specs.declared.byte.Byte.TheVariants.{Number}
 use Rattle.ad_symbolic.specs.AddressSpace.{bytes_in, cell_bytes, local_page, numbers_of, space_of}
 use Rattle.ad_symbolic.specs.Machine.{fresh_stack}
 use Rattle.ad_relate.specs.Stands.{Fits, Places, byte_at, segment_at, segments_at}

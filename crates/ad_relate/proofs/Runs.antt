@@ -9,7 +9,7 @@ use Rattle.ad_base.specs.declared.image.Image.{Image}
 use Rattle.ad_base.specs.declared.layout.TheConstants.{FETCH_BYTES, GATE, PAGE_BYTES, STACK_PAGES}
 use Rattle.ad_base.specs.Place.{base_of}
 use Rattle.ad_core.specs.Plain as plain
-use Rattle.ad_base.specs.Segments.{Access, Fetch, told}
+use Rattle.ad_base.specs.Segments.{Access}
 use Rattle.ad_isa.specs.Finish.{Ends, Finish, Returns}
 use Rattle.ad_isa.specs.Step.{Finishes, Goes, Next, State, step}
 use Rattle.ad_symbolic.specs.AddressSpace.{AddressSpace, fetched_value, part_bytes}
@@ -113,14 +113,17 @@ step-unclear made rest xs pc m p o at e = rw (at, e) tt
 
 -- what follows a step
 continue-stands : (ps : Places) (accesses : List Access) (made : ℕ) (rest : State Value → Memory → Run) (goes : State ℕ → plain.Tracked → plain.PlainOutcome) (step : Result (Next Value Memory) Reason) (next : Next ℕ plain.Tracked)
-    → ((n : Next Value Memory) → step ≡ Ok n → next ≡ next_at ps accesses n)
-    → ((h : State Value) (m : Memory) → step ≡ Ok (Goes h m) → RunStands ps (rest h m) (goes (state_at ps h) (tracked_at ps accesses m)))
+    → ((n : Next Value Memory) → step ≡ Ok n → (more : List Access) × (next ≡ next_at ps (accesses ++ more) n))
+    → ((more : List Access) (h : State Value) (m : Memory) → step ≡ Ok (Goes h m) → RunStands ps (rest h m) (goes (state_at ps h) (tracked_at ps (accesses ++ more) m)))
     → ((finish : Finish Value) (m : Memory) → step ≡ Ok (Finishes finish m) → Fits m.space)
     → RunStands ps (symbolic.continue made rest step) (plain.continue goes next)
-continue-stands ps accesses made rest goes (Ok (Goes h m)) next stands more left = subst (λ n. RunStands ps (rest h m) (plain.continue goes n)) (sym (stands (Goes h m) refl)) (more h m refl)
-continue-stands ps accesses made rest goes (Ok (Finishes finish m)) next stands more left =
-    subst (λ n. RunStands ps (Ok (record { finish = finish; memory = m })) (plain.continue goes n)) (sym (stands (Finishes finish m) refl)) (ended ps accesses m finish (left finish m refl))
-continue-stands ps accesses made rest goes (Err reason) next stands more left = tt
+continue-stands ps accesses made rest goes (Ok (Goes h m)) next stands goes_on left =
+    let (more, is) = stands (Goes h m) refl in
+    subst (λ n. RunStands ps (rest h m) (plain.continue goes n)) (sym is) (goes_on more h m refl)
+continue-stands ps accesses made rest goes (Ok (Finishes finish m)) next stands goes_on left =
+    let (more, is) = stands (Finishes finish m) refl in
+    subst (λ n. RunStands ps (Ok (record { finish = finish; memory = m })) (plain.continue goes n)) (sym is) (ended ps (accesses ++ more) m finish (left finish m refl))
+continue-stands ps accesses made rest goes (Err reason) next stands goes_on left = tt
 
 -- the registers at the start
 first-at : (ps : Places) (args : List ℕ) (sp : ℕ) → number_at ps (At Stack (STACK_PAGES * PAGE_BYTES)) ≡ sp → map (number_at ps) (symbolic.first_values args) ≡ plain.first_registers args sp
@@ -146,11 +149,10 @@ module _ (ps : Places) where
   run-stands zero made accesses h m ready =
       gated ps accesses h.registers h.pc m (spent made h m) _ ready (spent-unclear made h.registers h.pc m) (spent-stands ps accesses made h.registers h.pc m ready.fits)
   run-stands (suc fuel) made accesses h m ready =
-      let after = accesses ++ told Fetch FETCH_BYTES (number_at ps h.pc) in
       gated ps accesses h.registers h.pc m (symbolic.continue made (symbolic.symbolic_run fuel (made + 1)) (symbolic_step h m)) _ ready (step-unclear made (symbolic.symbolic_run fuel (made + 1)) h.registers h.pc m)
-      (continue-stands ps after made (symbolic.symbolic_run fuel (made + 1)) (plain.plain_run fuel) (symbolic_step h m) (plain.plain_step (state_at ps h) (tracked_at ps accesses m))
+      (continue-stands ps accesses made (symbolic.symbolic_run fuel (made + 1)) (plain.plain_run fuel) (symbolic_step h m) (plain.plain_step (state_at ps h) (tracked_at ps accesses m))
       (λ n e. step-stands ps h m accesses n ready e)
-      (λ next memory e. run-stands fuel (made + 1) after next memory (step-leaves ps h next m memory ready e))
+      (λ more next memory e. run-stands fuel (made + 1) (accesses ++ more) next memory (step-leaves ps h next m memory ready e))
       (λ finish memory e. step-fits ps h m memory finish ready e))
 
   call-stands : (fuel offset : ℕ) (args : List ℕ) (m : Memory) → IsApart m.space.image ps → Fits m.space → offset < 2 ^ 64

@@ -1,13 +1,14 @@
 -- What the symbolic machine's states, steps and outcomes stand for.
-use Rattle.std.specs.Prelude.{◌≡◌, ℕ, ◌%◌, ◌^◌, ◌<◌, List, map}
+use Rattle.std.specs.Prelude.{◌≡◌, ℕ, ◌%◌, ◌^◌, ◌<◌, List, map, Result, Ok, Err}
 use Rattle.ad_base.specs.declared.layout.TheConstants.{FETCH_BYTES}
-use Rattle.ad_base.specs.Segments.{Access}
+use Rattle.ad_base.specs.declared.end.End.{End}
+use Rattle.ad_base.specs.Segments.{Access, Segment}
 use Rattle.ad_core.specs.Memory.{Memory as PlainMemory}
 use Rattle.ad_core.specs.Plain as plain
 use Rattle.ad_core.specs.Turn.{fixed_data_of, writable_of}
 use Rattle.ad_isa.specs.Finish.{Aborts, Ends, Finish, Returns}
 use Rattle.ad_isa.specs.Step.{Finishes, Goes, Next, State}
-use Rattle.ad_symbolic.specs.AddressSpace.{numbers_of}
+use Rattle.ad_symbolic.specs.AddressSpace.{AddressSpace, numbers_of}
 use Rattle.ad_symbolic.specs.Machine.{Memory, SymbolicOutcome}
 use Rattle.ad_symbolic.specs.Replay.{end_of, number_or_zero}
 use Rattle.ad_symbolic.specs.Replay as symbolic
@@ -27,6 +28,16 @@ memory_at ps m = record { segments = segments_at ps m.space; notes = map (number
 -- the same, once these accesses were made
 abbrev pub tracked_at : Places → List Access → Memory → plain.Tracked
 tracked_at ps accesses m = record { memory = memory_at ps m; accesses = accesses }
+
+-- the number that was loaded, or the same end
+abbrev pub found_at : Places → Result Value End → Result ℕ End
+found_at ps (Ok v) = Ok (number_at ps v)
+found_at ps (Err end) = Err end
+
+-- the segments that a store left, or the same end
+abbrev pub left_at : Places → Result AddressSpace End → Result (List (Segment ℕ)) End
+left_at ps (Ok space) = Ok (segments_at ps space)
+left_at ps (Err end) = Err end
 
 -- the end that an end stands for
 abbrev pub finish_at : Places → Finish Value → Finish ℕ

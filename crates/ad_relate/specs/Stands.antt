@@ -9,7 +9,8 @@ use Rattle.ad_base.specs.Image.{IsWhole, movable_pages}
 use Rattle.ad_base.specs.Place.{base_of, IsModulePlace, IsPlace}
 use Rattle.ad_base.specs.Layout.{extents_from, fixed_roles, movable_roles, size_of, stack_roles}
 use Rattle.ad_base.specs.Segments.{Segment, extents}
-use Rattle.ad_symbolic.specs.Value.{Byte, Number, OfAddress}
+use Rattle.ad_symbolic.specs.declared.byte.Byte.{Byte}
+use Rattle.ad_symbolic.specs.declared.byte.Byte.TheVariants.{Number, OfAddress}
 use Rattle.ad_symbolic.specs.declared.value.Value.TheVariants.{At, Num}
 use Rattle.ad_symbolic.specs.declared.value.Part.TheVariants.{Movable, Stack}
 use Rattle.ad_symbolic.specs.declared.value.Part.{Part}

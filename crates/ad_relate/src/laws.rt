@@ -1,6 +1,6 @@
 //! Laws of related states. Each function makes no call: its contract is the law.
 
-ghost use Rattle.std.specs.Prelude.{◌≡◌, ℕ, ◌+◌, ◌-◌, ◌*◌, ◌%◌, ◌^◌, ◌<◌, bit_and, List, map, true, Result, Ok};
+ghost use Rattle.std.specs.Prelude.{◌≡◌, ℕ, ◌+◌, ◌*◌, ◌%◌, ◌^◌, ◌<◌, bit_and, Bool, List, ◌++◌, true, Result, Ok};
 ghost use Rattle.ad_base.specs.declared.end.End.{End};
 ghost use Rattle.ad_base.specs.declared.image.Image.{Image};
 ghost use Rattle.ad_base.specs.Place.{base_of};
@@ -9,49 +9,67 @@ ghost use Rattle.ad_base.specs.Image.{IsWhole};
 ghost use Rattle.ad_core.specs.Plain as machine;
 ghost use Rattle.ad_core.specs.Turn.{IsLawful, plain};
 ghost use Rattle.ad_base.specs.Segments.{Access};
-ghost use Rattle.ad_core.specs.Memory.{fetched};
+ghost use Rattle.ad_core.specs.Memory.{fetched, loaded, stored};
+ghost use Rattle.ad_isa.specs.Numbers.{minus, test_of};
 ghost use Rattle.ad_isa.specs.Step.{Found, Goes, Next, State};
-ghost use Rattle.ad_symbolic.specs.AddressSpace.{AddressSpace, fetched_value};
+ghost use Rattle.ad_isa.specs.Words.{IsSize};
+ghost use Rattle.ad_isa.specs.declared.instr.Test.{Test};
+ghost use Rattle.ad_symbolic.specs.AddressSpace.{AddressSpace, fetched_value, loaded_value, part_bytes, stored_value};
 ghost use Rattle.ad_symbolic.specs.Machine as symbolic;
 ghost use Rattle.ad_symbolic.specs.Replay.{Asked, clear_calls, keeps_none, kept_of, run_of};
-ghost use Rattle.ad_symbolic.specs.Value.{conjunction_of, offset_of, sum_of};
-ghost use Rattle.ad_symbolic.specs.declared.value.Value.TheVariants.{Num};
+ghost use Rattle.ad_symbolic.specs.Value.{conjunction_of, difference_of, holds_of, offset_of, other_of, sum_of};
 ghost use Rattle.ad_symbolic.specs.declared.value.Value.{Value};
-ghost use Rattle.ad_relate.specs.Machines.{Agrees, IsReady, StandsFor, memory_at, next_at, state_at, tracked_at};
+ghost use Rattle.ad_relate.specs.Machines.{Agrees, IsReady, StandsFor, found_at, left_at, memory_at, next_at, state_at, tracked_at};
 ghost use Rattle.ad_relate.specs.Stands.{number_at, segments_at, DataFits, Fits, IsApart, Places};
 ghost use Rattle.ad_relate.specs.ClearHistory.{AreOffsets, ArePlacedApart, RepliesAsReplayed, answers_of};
 ghost use Rattle.ad_relate.specs.Examples.{sum_book, sum_image};
 
 use ad_base::{FETCH_BYTES, PAGE_BYTES, STACK_PAGES};
 
-/// A clear sum stands for the sum modulo 2^64, a value with bit 0 cleared for the number with bit 0
-/// cleared, and an offset may be fetched at where the address may.
+/// A clear operation stands for that of numbers: a sum, a difference, a conjunction, any other operation and a comparison,
+/// the last for addresses in bounds wherever their parts lie. And an offset is a multiple of the bytes of an access where
+/// the address is.
 pub fn law_values()
     ensures sum { (ps : Places) (a b v : Value) → sum_of a b ≡ Ok v
         → number_at ps v ≡ (number_at ps a + number_at ps b) % 2 ^ 64 }
-    ensures even { (ps : Places) (a v : Value) → conjunction_of a (Num (2 ^ 64 - 2)) ≡ Ok v
-        → number_at ps v ≡ bit_and (number_at ps a) (2 ^ 64 - 2) }
-    ensures alignment { (ps : Places) (v : Value)
-        → number_at ps v % FETCH_BYTES ≡ offset_of v % FETCH_BYTES }
+    ensures difference { (ps : Places) (a b v : Value) → difference_of a b ≡ Ok v
+        → number_at ps v ≡ minus (number_at ps a) (number_at ps b) }
+    ensures conjunction { (ps : Places) (a b v : Value) → conjunction_of a b ≡ Ok v
+        → number_at ps v ≡ bit_and (number_at ps a) (number_at ps b) }
+    ensures other { (ps : Places) (f : ℕ → ℕ → ℕ) (a b v : Value) → other_of f a b ≡ Ok v
+        → number_at ps v ≡ f (number_at ps a) (number_at ps b) }
+    ensures comparison { (i : Image) (ps : Places) → IsApart i ps
+        → (test : Test) (a b : Value) (holds : Bool) → holds_of (part_bytes i) test a b ≡ Ok holds
+        → holds ≡ test_of test (number_at ps a) (number_at ps b) }
+    ensures alignment { (ps : Places) (size : ℕ) (v : Value) → IsSize size
+        → number_at ps v % size ≡ offset_of v % size }
 {}
 
-/// Where it is clear what the symbolic machine finds at a value, the plain machine finds the same at
-/// the number of the value, wherever the movable part and the stack lie: the same word,
-/// the same service, or the same end. The value is a number, or an address at an offset below 2^64, that may be
-/// fetched at.
-pub fn law_fetch()
-    ensures { (space : AddressSpace) (ps : Places) → IsApart space.image ps → Fits space
+/// Where it is clear what the symbolic machine finds at a value, the plain machine finds the same at the number of the
+/// value, wherever the movable part and the stack lie. A fetch, where the value is a number, or an address at an offset,
+/// below 2^64 that may be fetched at: the same word, the same service, or the same end. A load: the number of the value, or
+/// the same end. A store: the segments that those stand for which are left, or the same end.
+pub fn law_memories()
+    ensures fetch { (space : AddressSpace) (ps : Places) → IsApart space.image ps → Fits space
         → (v : Value) (found : Result Found End) → offset_of v < 2 ^ 64 → offset_of v % FETCH_BYTES ≡ 0
         → fetched_value space v ≡ Ok found
         → machine.found_or_end (fetched (segments_at ps space) (number_at ps v)) ≡ found }
+    ensures load { (space : AddressSpace) (ps : Places) → IsApart space.image ps → Fits space
+        → (size : ℕ) (signed : Bool) (v : Value) (found : Result Value End) → IsSize size → offset_of v < 2 ^ 64
+        → loaded_value size signed space v ≡ Ok found
+        → machine.widened_or_end size signed (loaded size (segments_at ps space) (number_at ps v)) ≡ found_at ps found }
+    ensures store { (space : AddressSpace) (ps : Places) → IsApart space.image ps → Fits space
+        → (size : ℕ) (value v : Value) (left : Result AddressSpace End) → IsSize size → offset_of v < 2 ^ 64
+        → stored_value size value space v ≡ Ok left
+        → stored size (number_at ps value) (segments_at ps space) (number_at ps v) ≡ left_at ps left }
 {}
 
 /// A clear step stands for the plain machine's step, wherever the movable part and the stack lie, whatever
-/// accesses were made before, and where it goes on, the next step is ready too.
+/// accesses were made before, to which it adds its own; and where it goes on, the next step is ready too.
 pub fn law_step()
     ensures stands { (ps : Places) (h : State Value) (m : symbolic.Memory) (accesses : List Access) (next : Next Value symbolic.Memory)
         → IsReady ps h m → symbolic.symbolic_step h m ≡ Ok next
-        → (after : List Access) × (machine.plain_step (state_at ps h) (tracked_at ps accesses m) ≡ next_at ps after next) }
+        → (more : List Access) × (machine.plain_step (state_at ps h) (tracked_at ps accesses m) ≡ next_at ps (accesses ++ more) next) }
     ensures ready { (ps : Places) (h after : State Value) (m memory : symbolic.Memory)
         → IsReady ps h m → symbolic.symbolic_step h m ≡ Ok (Goes after memory)
         → IsReady ps after memory }

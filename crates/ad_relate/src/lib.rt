@@ -5,5 +5,5 @@
 mod laws;
 
 pub use laws::{
-    law_clear, law_clear_history, law_fetch, law_run, law_step, law_values, law_worked_history,
+    law_clear, law_clear_history, law_memories, law_run, law_step, law_values, law_worked_history,
 };

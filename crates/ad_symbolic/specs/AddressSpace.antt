@@ -16,7 +16,9 @@ use Rattle.ad_base.specs.Segments.{Fetch, Load, Segment, Store, Use, bytes_from,
 use Rattle.ad_isa.specs.Domain.{◌>>=◌}
 use Rattle.ad_isa.specs.Numbers.{widened}
 use Rattle.ad_isa.specs.Step.{Found, Service, Word}
-use Rattle.ad_symbolic.specs.Value.{Byte, Number, OfAddress, is_outside, is_same_part, offset_of}
+use Rattle.ad_symbolic.specs.Value.{is_outside, is_same_part, offset_of}
+use Rattle.ad_symbolic.specs.declared.byte.Byte.{Byte}
+use Rattle.ad_symbolic.specs.declared.byte.Byte.TheVariants.{Number, OfAddress}
 use Rattle.ad_symbolic.specs.declared.value.Reason.TheVariants.{Address, MixedBytes}
 use Rattle.ad_symbolic.specs.declared.value.Value.TheVariants.{At, Num}
 use Rattle.ad_symbolic.specs.declared.value.Part.TheVariants.{Movable, Stack}

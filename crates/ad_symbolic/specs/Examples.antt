@@ -1,17 +1,23 @@
 -- Images, address spaces, calls and outcomes of worked examples.
-use Rattle.std.specs.Prelude.{ℕ, ◌+◌, List, [], ◌∷◌, codes}
+use Rattle.std.specs.Prelude.{ℕ, ◌+◌, List, [], ◌∷◌, codes, replicate}
 use Rattle.std.specs.List.{flat_map}
 use Rattle.byteorder.specs.Endian.{little_bytes}
 use Rattle.ad_base.specs.declared.image.Image.{Image}
-use Rattle.ad_base.specs.declared.layout.TheConstants.{INSTRUCTION_BYTES, STUB_PAGES, TABLE_PAGES}
+use Rattle.ad_base.specs.declared.layout.TheConstants.{INSTRUCTION_BYTES, STUB_PAGES, TABLE_PAGES, WORD_BYTES}
 use Rattle.ad_base.specs.declared.place.Place.{Place}
+use Rattle.ad_base.specs.declared.image.Cell.TheVariants.{Off}
+use Rattle.ad_base.specs.declared.role.Role.TheVariants.{Cells, Code, Stack}
 use Rattle.ad_base.specs.Image.{text_image}
-use Rattle.ad_symbolic.specs.AddressSpace.{AddressSpace, space_of}
+use Rattle.ad_base.specs.Layout.{code_rights, constant_rights, data_rights}
+use Rattle.ad_symbolic.specs.AddressSpace.{AddressSpace, cell_bytes, low_bytes, numbers_of, put_at_value, space_of}
 use Rattle.ad_isa.specs.Finish.{Returns}
 use Rattle.ad_symbolic.specs.Machine.{SymbolicOutcome, fresh_stack}
 use Rattle.ad_symbolic.specs.Replay.{Asked}
-use Rattle.ad_symbolic.specs.Value.{Byte}
+use Rattle.ad_symbolic.specs.declared.byte.Byte.{Byte}
+use Rattle.ad_symbolic.specs.declared.byte.Byte.TheVariants.{Number}
+use Rattle.ad_symbolic.specs.declared.value.Part.TheVariants as part
 use Rattle.ad_symbolic.specs.declared.value.Value.{Value}
+use Rattle.ad_symbolic.specs.declared.value.Value.TheVariants.{At}
 
 -- an image, with no data and a fresh stack
 abbrev pub fresh_space : Image → AddressSpace
@@ -48,3 +54,17 @@ jump_words = 0x00050067 ∷ []
 -- a place of such an immovable part, at 7715426304
 abbrev pub fixed_place : Place
 fixed_place = record { region = 29432; start = 1; pages = STUB_PAGES + TABLE_PAGES; mapping = 2; frame = 0 }
+
+-- a few bytes of a module that adds: code, and a word of the local area; and of a stack
+abbrev pub small_space : AddressSpace
+small_space = record {
+  image = image_of sum_words fixed_place;
+  movable = record { base = 0; bytes = numbers_of (little_bytes WORD_BYTES 0x0000806700b50533); rights = code_rights; role = Code }
+      ∷ record { base = 8; bytes = cell_bytes (Off 40); rights = constant_rights; role = Cells } ∷ [];
+  stack = record { base = 0; bytes = replicate 24 (Number 0); rights = data_rights; role = Stack } ∷ [];
+  fixed = [];
+}
+
+-- the same, once so many low bytes of a value were put at an offset of the stack
+abbrev pub with_stack : ℕ → Value → ℕ → AddressSpace → AddressSpace
+with_stack size value o s = put_at_value (At part.Stack o) (low_bytes size value) s

@@ -3,3 +3,5 @@ pub mod AddressSpace
 pub mod Machine
 pub mod Replay
 pub mod Examples
+pub mod Reply
+pub mod Private

@@ -1,18 +1,18 @@
 -- The symbolic machine: the table's rows over values. It knows no place of a movable part and none of a
 -- stack; modules never move here.
-use Rattle.std.specs.Prelude.{ℕ, zero, suc, ◌+◌, ◌*◌, ◌%◌, Bool, true, false, ◌==◌, if◌then◌else◌, List, ◌∷◌, ◌++◌, take, map, replicate, slice_index_or, Option, Some, None, Result, Ok, Err}
+use Rattle.std.specs.Prelude.{ℕ, zero, suc, ◌+◌, ◌*◌, ◌%◌, ◌==◌, if◌then◌else◌, List, ◌∷◌, ◌++◌, take, map, replicate, slice_index_or, Option, Some, None, Result, Ok, Err}
 use Rattle.ad_base.specs.declared.layout.TheConstants.{FETCH_BYTES, GATE, PAGE_BYTES, STACK_PAGES}
 use Rattle.ad_base.specs.declared.end.End.{End}
 use Rattle.ad_base.specs.declared.end.End.TheVariants as ends
 use Rattle.ad_isa.specs.Domain.{Domain, ◌>>=◌}
 use Rattle.ad_isa.specs.Finish.{Ends, Finish, Returns}
+use Rattle.ad_isa.specs.Services.{Channels, served}
 use Rattle.ad_isa.specs.Step.{Finishes, Goes, Next, State, Storage, step}
 use Rattle.ad_isa.specs.Table.{decoded}
-use Rattle.ad_isa.specs.declared.instr.Alu.TheVariants.{Add}
-use Rattle.ad_isa.specs.declared.instr.Instr.{Instr}
-use Rattle.ad_isa.specs.declared.instr.Instr.TheVariants.{Auipc, OpImm, Op, Jalr}
-use Rattle.ad_symbolic.specs.Value.{Byte, Number, values}
-use Rattle.ad_symbolic.specs.declared.value.Reason.TheVariants.{Address, Arithmetic}
+use Rattle.ad_symbolic.specs.Value.{values}
+use Rattle.ad_symbolic.specs.declared.byte.Byte.{Byte}
+use Rattle.ad_symbolic.specs.declared.byte.Byte.TheVariants.{Number}
+use Rattle.ad_symbolic.specs.declared.value.Reason.TheVariants.{Address}
 use Rattle.ad_symbolic.specs.declared.value.Value.TheVariants.{At, Num}
 use Rattle.ad_symbolic.specs.declared.value.Part.TheVariants.{Movable, Stack}
 use Rattle.ad_symbolic.specs.declared.value.Reason.{Reason}
@@ -25,37 +25,30 @@ pub record Memory : Type 0 where
   pub notes : List Value
   pub queue : List Value
 
--- the rows that the machine has: AUIPC, ADDI, ADD and JALR
-abbrev pub has_row : Instr → Bool
-has_row (Auipc rd imm) = true
-has_row (OpImm Add rd rs1 imm) = true
-has_row (Op Add rd rs1 rs2) = true
-has_row (Jalr rd rs1 imm) = true
-has_row i = false
-
--- a word of no row that the machine has isn't clear
-abbrev pub known : Option Instr → Result (Option Instr) Reason
-known None = Err Arithmetic
-known (Some i) = if has_row i then Ok (Some i) else Err Arithmetic
+abbrev pub channels_of : Memory → Channels Value
+channels_of m = record { notes = m.notes; queue = m.queue }
 
 -- how a call ends by a store, and what it leaves
 abbrev pub after_store : Memory → Result AddressSpace End → Option End × Memory
 after_store m (Ok space) = (None, record m { space = space })
 after_store m (Err end) = (Some end, m)
 
--- no service is clear so far
-abbrev pub symbolic_storage : Storage Value Memory Reason
-symbolic_storage = record {
-  fetch = λ m at. fetched_value m.space at >>= λ found. Ok (found, m);
-  decode = λ word. known (decoded word);
-  load = λ m size signed at. loaded_value size signed m.space at >>= λ found. Ok (found, m);
-  store = λ m size value at. stored_value size value m.space at >>= λ left. Ok (after_store m left);
-  service = λ m number a0. Err Arithmetic;
-}
+-- what a service answers and leaves
+abbrev pub after_service : Memory → Result Value (Finish Value) × Channels Value → Result Value (Finish Value) × Memory
+after_service m answer = (answer.0, record m { notes = answer.1.notes; queue = answer.1.queue })
 
 -- comparisons depend on how long the parts are
 abbrev pub values_in : Memory → Domain Value Reason
 values_in m = values (part_bytes m.space.image)
+
+abbrev pub symbolic_storage : Storage Value Memory Reason
+symbolic_storage = record {
+  fetch = λ m at. fetched_value m.space at >>= λ found. Ok (found, m);
+  decode = λ word. Ok (decoded word);
+  load = λ m size signed at. loaded_value size signed m.space at >>= λ found. Ok (found, m);
+  store = λ m size value at. stored_value size value m.space at >>= λ left. Ok (after_store m left);
+  service = λ m number a0. Ok (after_service m (served (values_in m) number a0 (channels_of m)));
+}
 
 unfoldable pub symbolic_step : State Value → Memory → Result (Next Value Memory) Reason
 symbolic_step h m = step (values_in m) symbolic_storage h m

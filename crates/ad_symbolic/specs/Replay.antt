@@ -6,7 +6,8 @@ use Rattle.ad_base.specs.declared.end.End.TheVariants as ends
 use Rattle.ad_base.specs.declared.image.Image.{Image}
 use Rattle.ad_base.specs.Book.{Contents}
 use Rattle.ad_base.specs.Segments.{bytes_of_role, is_data, is_fixed_data}
-use Rattle.ad_symbolic.specs.Value.{Byte, Number, OfAddress}
+use Rattle.ad_symbolic.specs.declared.byte.Byte.{Byte}
+use Rattle.ad_symbolic.specs.declared.byte.Byte.TheVariants.{Number, OfAddress}
 use Rattle.ad_symbolic.specs.declared.value.Value.TheVariants.{At, Num}
 use Rattle.ad_symbolic.specs.declared.value.Reason.{Reason}
 use Rattle.ad_symbolic.specs.declared.value.Value.{Value}

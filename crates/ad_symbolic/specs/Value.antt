@@ -58,9 +58,9 @@ other_of f (Num a) (Num b) = Ok (Num (f a b))
 other_of f (At p o) b = Err Arithmetic
 other_of f (Num a) (At p o) = Err Arithmetic
 
--- A number below the first region for places, or behind the last one: no place has it.
+-- A number of 64 bits below the first region for places, or behind the last one: no place has it.
 abbrev pub is_outside : ℕ → Bool
-is_outside n = nat_lt n (MODULE_REGION * REGION_BYTES) || nat_le (REGIONS * REGION_BYTES) n
+is_outside n = nat_lt n (MODULE_REGION * REGION_BYTES) || (nat_le (REGIONS * REGION_BYTES) n && nat_lt n (2 ^ 64))
 
 -- addresses of different parts differ; which is the lower depends on the places
 abbrev pub across_parts : Test → Result Bool Reason
@@ -96,8 +96,3 @@ module _ (size : Part → ℕ) where
     holds = holds_of;
     is_aligned = λ bytes v. offset_of v % bytes == 0;
   }
-
--- a byte of memory: a number, or byte i of an address
-pub data Byte : Type 0 where
-  Number : ℕ → Byte
-  OfAddress : ℕ → Part → ℕ → Byte

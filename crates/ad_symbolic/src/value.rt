@@ -18,7 +18,7 @@ pub enum Value {
 /// Why a step has no clear result.
 #[derive(Clone, Copy, Debug, PartialEq, Eq)]
 pub enum Reason {
-    /// A result of arithmetic that depends on a place, or a word of no row that the machine has.
+    /// A result of arithmetic that depends on a place.
     Arithmetic,
     /// A comparison that depends on a place.
     Comparison,
@@ -26,4 +26,15 @@ pub enum Reason {
     Address,
     /// Bytes of an address among others.
     MixedBytes,
+}
+
+impl Default for Value {
+    ghost use Rattle.std.specs.Prelude.{◌≡◌};
+    ghost use Rattle.ad_symbolic.specs.declared.value.Value.TheVariants.{Num};
+
+    ghost is_default = { λ v. v ≡ Num 0 };
+
+    fn default() -> Value {
+        Value::Num(0)
+    }
 }

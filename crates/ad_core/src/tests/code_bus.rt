@@ -1,12 +1,12 @@
 //! A memory of a few words of code, beside notes and a queue.
 
-ghost use Rattle.std.specs.Prelude.{[], ◌∷◌};
+ghost use Rattle.std.specs.Prelude.{◌≡◌, ◌<◌, ◌+◌, ◌*◌, ◌%◌, ◌^◌, [], ◌∷◌};
 ghost use Rattle.ad_base.specs.declared.role.Role.TheVariants.{Code};
 ghost use Rattle.ad_core.specs.Examples.{segment_of};
 ghost use Rattle.ad_core.specs.Memory.{HasWholeWords};
 
 use crate::{Bus, Fetched, Refusal, Served, make_service, service_at};
-use ad_base::{Device, GATE, Notes, REGION_BYTES, field_u16, field_u32, field_u64};
+use ad_base::{Device, FETCH_BYTES, GATE, Notes, REGION_BYTES, field_u16, field_u32, field_u64};
 use byteorder::{ByteOrder, LittleEndian};
 
 /// Where the code lies.
@@ -18,6 +18,8 @@ pub struct CodeBus {
     bytes: [u8; 16],
     notes: Notes,
     device: Device,
+    /// What the accesses so far come to, in order.
+    tally: u64,
     ghost whole: { HasWholeWords (segment_of Code 0x100000 bytes ∷ []) },
 }
 
@@ -29,16 +31,24 @@ impl CodeBus {
             bytes,
             notes: Notes::new(),
             device: Device::new(),
+            tally: 0,
         }
+    }
+}
+
+impl CodeBus {
+    /// What the accesses so far came to.
+    pub fn tally(&self) -> u64 {
+        self.tally
     }
 }
 
 impl Bus for CodeBus {
     ghost use Rattle.std.specs.Prelude.{[], ◌∷◌};
     ghost use Rattle.ad_base.specs.declared.role.Role.TheVariants.{Code};
-    ghost use Rattle.ad_core.specs.Examples.{segment_of};
+    ghost use Rattle.ad_core.specs.Examples.{segment_of, tally_with};
 
-    type Track = ();
+    type Track = u64;
 
     ghost memory = { λ b. record {
       segments = segment_of Code 0x100000 b.bytes ∷ [];
@@ -46,9 +56,9 @@ impl Bus for CodeBus {
       queue = b.device;
     } };
 
-    ghost track = { λ _. record {} };
+    ghost track = { λ b. b.tally };
 
-    ghost rule = { λ track _. track };
+    ghost rule = { tally_with };
 
     ghost whole_words = { λ b. b.whole };
 
@@ -60,6 +70,7 @@ impl Bus for CodeBus {
         if at / REGION_BYTES == 1 {
             return service_at(at);
         }
+        self.tally = with_access(self.tally, at, FETCH_BYTES as u8, FETCH);
         if at < BASE || at - BASE >= 16 {
             return Fetched::Fault;
         }
@@ -68,7 +79,11 @@ impl Bus for CodeBus {
 
     #[tactic(auto, using(std::proofs::lemmas::Bool::Decides::nat_tests), unfolding(crate::specs::Memory::loaded))]
     fn load(&mut self, at: u64, size: u8) -> Result<u64, Refusal> {
-        if at / REGION_BYTES == 1 || at < BASE || at - BASE >= 16 {
+        if at / REGION_BYTES == 1 {
+            return Err(Refusal::Fault);
+        }
+        self.tally = with_access(self.tally, at, size, LOAD);
+        if at < BASE || at - BASE >= 16 {
             return Err(Refusal::Fault);
         }
         let offset = at - BASE;
@@ -82,7 +97,11 @@ impl Bus for CodeBus {
 
     #[tactic(auto, using(std::proofs::lemmas::Bool::Decides::nat_tests), unfolding(crate::specs::Memory::stored))]
     fn store(&mut self, at: u64, size: u8, value: u64) -> Result<(), Refusal> {
-        if at / REGION_BYTES == 1 || at < BASE || at - BASE >= 16 {
+        if at / REGION_BYTES == 1 {
+            return Err(Refusal::Fault);
+        }
+        self.tally = with_access(self.tally, at, size, STORE);
+        if at < BASE || at - BASE >= 16 {
             return Err(Refusal::Fault);
         }
         Err(Refusal::Denied)
@@ -91,4 +110,21 @@ impl Bus for CodeBus {
     fn service(&mut self, number: u8, a0: u64) -> Served {
         make_service(number, a0, &mut self.notes, &mut self.device)
     }
+}
+
+/// What an access does, as a number.
+pub const FETCH: u64 = 1;
+
+pub const LOAD: u64 = 2;
+
+pub const STORE: u64 = 3;
+
+/// The tally once there was one more access.
+pub fn with_access(tally: u64, at: u64, size: u8, use_of: u64) -> u64
+    requires { use_of < 4 }
+    ensures { result ≡ (tally * 31 + (at + (size + use_of * 16))) % 2 ^ 64 }
+{
+    tally
+        .wrapping_mul(31)
+        .wrapping_add(at.wrapping_add(u64::from(size) + use_of * 16))
 }

@@ -2,6 +2,7 @@
 
 use super::files::{COUNTER, Patch, SUM, push_name, put};
 use crate::elf::NAME_BYTES;
+use crate::object::Object;
 use crate::read::read_object;
 use crate::refusal::ElfRefusal;
 use std::alloc::Global;
@@ -81,21 +82,39 @@ const COUNTER_CASES: [(Patch, Option<ElfRefusal>); 15] = [
     (Patch { at: 560, bytes: 8, value: 73 }, Some(ElfRefusal::RelaOffset(3, 4))),
 ];
 
-/// What two numbers make of the file that adds: the first row counts.
+/// What two numbers make of the file that adds: the first row counts, and in it the first section. A header that
+/// describes no section may say what it likes.
 #[rattlefmt::skip]
-const SUM_PAIRS: [(Patch, Patch, Option<ElfRefusal>); 6] = [
+const SUM_PAIRS: [(Patch, Patch, Option<ElfRefusal>); 17] = [
+    (Patch { at: 6, bytes: 1, value: 2 }, Patch { at: 4, bytes: 1, value: 1 }, Some(ElfRefusal::Magic)),
     (Patch { at: 4, bytes: 1, value: 1 }, Patch { at: 18, bytes: 2, value: 62 }, Some(ElfRefusal::Class)),
-    (Patch { at: 292, bytes: 4, value: 9 }, Patch { at: 224, bytes: 4, value: 33 }, Some(ElfRefusal::SectionType(2))),
+    (Patch { at: 18, bytes: 2, value: 62 }, Patch { at: 16, bytes: 2, value: 2 }, Some(ElfRefusal::Machine)),
+    (Patch { at: 16, bytes: 2, value: 2 }, Patch { at: 48, bytes: 4, value: 1 }, Some(ElfRefusal::NotRelocatable)),
+    (Patch { at: 48, bytes: 4, value: 1 }, Patch { at: 62, bytes: 2, value: 1 }, Some(ElfRefusal::Flags(1))),
+    (Patch { at: 62, bytes: 2, value: 1 }, Patch { at: 248, bytes: 8, value: 473 }, Some(ElfRefusal::SectionTable)),
     (Patch { at: 228, bytes: 4, value: 9 }, Patch { at: 312, bytes: 8, value: 480 }, Some(ElfRefusal::SectionBounds(2))),
+    (Patch { at: 292, bytes: 4, value: 9 }, Patch { at: 224, bytes: 4, value: 33 }, Some(ElfRefusal::SectionType(2))),
+    (Patch { at: 344, bytes: 8, value: 23 }, Patch { at: 224, bytes: 4, value: 33 }, Some(ElfRefusal::StringIndex(1))),
+    (Patch { at: 96, bytes: 4, value: 5 }, Patch { at: 102, bytes: 2, value: 5 }, Some(ElfRefusal::SymbolTable)),
+    (Patch { at: 248, bytes: 8, value: 473 }, Patch { at: 312, bytes: 8, value: 480 }, Some(ElfRefusal::SectionBounds(1))),
+    (Patch { at: 228, bytes: 4, value: 9 }, Patch { at: 292, bytes: 4, value: 9 }, Some(ElfRefusal::SectionType(1))),
+    (Patch { at: 224, bytes: 4, value: 33 }, Patch { at: 288, bytes: 4, value: 33 }, Some(ElfRefusal::StringIndex(1))),
     (Patch { at: 228, bytes: 4, value: 8 }, Patch { at: 256, bytes: 8, value: 4294967296 }, None),
     (Patch { at: 228, bytes: 4, value: 8 }, Patch { at: 256, bytes: 8, value: 4294967297 }, Some(ElfRefusal::SectionBounds(1))),
+    (Patch { at: 184, bytes: 8, value: 18446744073709551615 }, Patch { at: 192, bytes: 8, value: 18446744073709551615 }, None),
     (Patch { at: 78, bytes: 2, value: 9 }, Patch { at: 104, bytes: 8, value: 9 }, Some(ElfRefusal::SymbolSection(1))),
 ];
 
-/// What two numbers make of the file of a compiler.
+/// What two numbers make of the file of a compiler: the first row counts, and in it the first symbol, section or
+/// entry.
 #[rattlefmt::skip]
-const COUNTER_PAIRS: [(Patch, Patch, Option<ElfRefusal>); 4] = [
+const COUNTER_PAIRS: [(Patch, Patch, Option<ElfRefusal>); 9] = [
+    (Patch { at: 988, bytes: 4, value: 0 }, Patch { at: 398, bytes: 2, value: 11 }, Some(ElfRefusal::SymbolSection(7))),
+    (Patch { at: 476, bytes: 4, value: 10 }, Patch { at: 984, bytes: 4, value: 1 }, Some(ElfRefusal::RelaTarget(3))),
     (Patch { at: 464, bytes: 8, value: 77 }, Patch { at: 572, bytes: 4, value: 10 }, Some(ElfRefusal::RelaSymbol(3, 4))),
+    (Patch { at: 398, bytes: 2, value: 11 }, Patch { at: 422, bytes: 2, value: 11 }, Some(ElfRefusal::SymbolSection(7))),
+    (Patch { at: 988, bytes: 4, value: 0 }, Patch { at: 1140, bytes: 4, value: 4 }, Some(ElfRefusal::RelaTarget(3))),
+    (Patch { at: 476, bytes: 4, value: 10 }, Patch { at: 572, bytes: 4, value: 10 }, Some(ElfRefusal::RelaSymbol(3, 0))),
     (Patch { at: 560, bytes: 8, value: 73 }, Patch { at: 464, bytes: 8, value: 77 }, Some(ElfRefusal::RelaOffset(3, 0))),
     (Patch { at: 472, bytes: 4, value: 26 }, Patch { at: 464, bytes: 8, value: 80 }, None),
     (Patch { at: 472, bytes: 4, value: 26 }, Patch { at: 464, bytes: 8, value: 81 }, Some(ElfRefusal::RelaOffset(3, 0))),
@@ -175,6 +194,9 @@ fn every_front_is_refused(rt: HostRuntime) {
         );
     }
     assert_eq!(rt; refusal(rt.alloc(), &SUM), None);
+    // 63 and 64 bytes that don't begin as an ELF file.
+    assert_eq!(rt; refusal(rt.alloc(), &SUM[1..64]), Some(ElfRefusal::Short));
+    assert_eq!(rt; refusal(rt.alloc(), &SUM[1..65]), Some(ElfRefusal::Magic));
 }
 
 /// The file that adds, whose strings are one name of so many letters.
@@ -219,18 +241,46 @@ fn a_name_has_its_most_bytes(rt: HostRuntime) -> Result<(), Fail> {
     Ok(())
 }
 
+/// The sections that a file keeps, as text: for each its number, its name, and how many bytes it has.
+fn sections_text(alloc: Global, object: &Object) -> Result<String, Fail> {
+    let mut text = String::new(alloc);
+    for section in object.sections.as_slice() {
+        let (index, name, bytes) = (section.index, &section.name, section.bytes.len());
+        write!(text, "{index} {name} {bytes}, ")?;
+    }
+    Ok(text)
+}
+
+#[test]
+fn section_0_is_kept_where_it_is_loaded(rt: HostRuntime) -> Result<(), Fail> {
+    let mut file = Vec::from_slice(rt.alloc(), &SUM)?;
+    // The type and the flags of a section that is loaded, and a size of 4 bytes.
+    for (at, value) in [(164, 1 + (2 << 32)), (192, 4)] {
+        put(
+            &mut file,
+            Patch {
+                at,
+                bytes: 8,
+                value,
+            },
+        );
+    }
+    let object = read_object(rt.alloc(), file.as_slice())
+        .ok()
+        .ok_or("the file is read")?;
+    let sections = sections_text(rt.alloc(), &object)?;
+    assert_eq!(rt; sections.as_str(), "0  4, 1 .text 8, ");
+    Ok(())
+}
+
 #[test]
 fn the_file_of_a_compiler_is_read(rt: HostRuntime) -> Result<(), Fail> {
     let object = read_object(rt.alloc(), &COUNTER)
         .ok()
         .ok_or("the file is read")?;
-    let mut names = String::new(rt.alloc());
-    for section in object.sections.as_slice() {
-        let (index, name, bytes) = (section.index, &section.name, section.bytes.len());
-        write!(names, "{index} {name} {bytes}, ")?;
-    }
+    let sections = sections_text(rt.alloc(), &object)?;
     assert_eq!(rt;
-        names.as_str(),
+        sections.as_str(),
         "2 .text 80, 4 .bss 0, 5 .rodata.cst16 16, "
     );
     assert_eq!(rt; object.symbols.len(), 10);

@@ -1,12 +1,16 @@
 -- What is known while a file is written.
-use Rattle.std.specs.Prelude.{◌≡◌, ℕ, ◌++◌, ◌<◌, List, length, map, take, slice_index, slice_index_or}
+use Rattle.std.specs.Prelude.{◌≡◌, ℕ, ◌++◌, ◌<◌, ◌==◌, ◌^◌, true, List, length, map, take, slice_index, slice_index_or}
 use Rattle.std.specs.Borrow.{Bor}
 use Rattle.std.specs.BTreeMap.{get}
 use Rattle.std.specs.Cmp.Lexicographic.{slice_cmp}
+use Rattle.std.specs.List.{All, list_any}
 use Rattle.std.specs.Ordering.{nat_cmp}
 use Rattle.std.specs.declared.cmp.Ordering.{Ordering}
 use Rattle.ad_kit.specs.ObjectFile.{begin_behind, end_of, find_place, place, relas_bytes, sections_bytes, strings, to_names, to_relas, to_strings, to_symbols, used}
+use Rattle.ad_kit.specs.Writable.{HasNoZero, powers}
 use Rattle.ad_kit.specs.declared.body.Places.{Places}
+use Rattle.ad_kit.specs.declared.header.Header.{Header}
+use Rattle.ad_kit.specs.declared.object.KitRela.{KitRela}
 use Rattle.ad_kit.specs.declared.object.KitSection.{KitSection}
 use Rattle.ad_kit.specs.declared.object.KitSymbol.{KitSymbol}
 use Rattle.ad_kit.specs.declared.strings.Found.{Found}
@@ -45,3 +49,15 @@ pub record ArePlaces (ss : List KitSection) (ys : List KitSymbol) (p : Places) :
 -- the section has few relocations
 abbrev pub IsShort : KitSection → Type 0
 IsShort s = length s.relas < 10000
+
+-- the numbers of a header that come from a section fit their fields
+pub record IsHeaderFit (h : Header) : Type 0 where
+  pub typ : h.typ < 2 ^ 32
+  pub flags : h.flags < 2 ^ 64
+  pub size : h.size < 2 ^ 64
+
+-- the section can be written
+pub record IsSectionWritable (s : KitSection) : Type 0 where
+  pub aligned : list_any (λ a. a == s.align) powers ≡ true
+  pub name : HasNoZero s.name
+  pub symbols : All (λ (r : KitRela). r.symbol < 2 ^ 32) s.relas

@@ -4,6 +4,8 @@ use Rattle.ad_base.specs.declared.place.Place.{Place}
 use Rattle.ad_base.specs.Place.{base_of, packed}
 use Rattle.ad_maps.specs.declared.shape.Shape.{Shape}
 use Rattle.ad_maps.specs.declared.view.Stage.TheVariants as stage
+use Rattle.ad_maps.specs.declared.view.Passing.TheVariants as passing
+use Rattle.ad_maps.specs.declared.view.Freeing.TheVariants as freeing
 use Rattle.ad_maps.specs.declared.view.Doing.{Doing}
 use Rattle.ad_maps.specs.declared.view.Doing.TheVariants.{Mover}
 use Rattle.ad_maps.specs.MapPlace.{opening_of, cells_of, cell_word, module_of_frame, numbers}
@@ -39,4 +41,4 @@ Laid shape k xs = Laying shape k k 0 xs
 
 -- the mover's view once k worker's seats are split off
 abbrev pub dealt_out : Shape → ℕ → Doing
-dealt_out shape k = Mover (record { stage = stage.Idle; slots = shape.slots; dealt = k; current = numbers shape; fresh = []; outs = []; rooms = []; gives = []; deeds = []; back = [] })
+dealt_out shape k = Mover (record { stage = stage.Idle; passing = passing.Rest; batches = 0; freeing = freeing.Nothing; slots = shape.slots; dealt = k; current = numbers shape; fresh = []; outs = []; rooms = []; gives = []; deeds = []; back = [] })

@@ -1,5 +1,5 @@
 -- The directory of a closed table, by mapping number, and the rows that its words say.
-use Rattle.std.specs.Prelude.{◌≡◌, ◌≢◌, ℕ, ◌+◌, ◌/◌, ◌%◌, ◌^◌, ◌<◌, List, [], length, map, slice_index, All, Contains}
+use Rattle.std.specs.Prelude.{◌≡◌, ◌≢◌, ℕ, ◌+◌, ◌*◌, ◌/◌, ◌%◌, ◌^◌, ◌<◌, List, [], length, map, slice_index, All, Contains}
 use Rattle.ad_base.specs.declared.ledger.Kind.TheVariants.{Code}
 use Rattle.ad_base.specs.declared.ledger.Row.{Row}
 use Rattle.ad_base.specs.declared.place.Place.{Place}
@@ -10,9 +10,9 @@ use Rattle.ad_maps.specs.declared.view.Deed.{Deed}
 use Rattle.ad_maps.specs.declared.view.Hand.{Hand}
 use Rattle.ad_maps.specs.declared.view.Plan.{Plan}
 use Rattle.ad_maps.specs.declared.view.Doing.TheVariants.{Mover}
-use Rattle.ad_maps.specs.declared.words.TheConstants.{NUMBERS, REGION_WORDS, DIRECTORY_BASE}
+use Rattle.ad_maps.specs.declared.words.TheConstants.{MEMBERS, NUMBERS, REGION_WORDS, DIRECTORY_BASE, MEMBER_BASE}
 use Rattle.ad_maps.specs.Ledger.{all_made}
-use Rattle.ad_maps.specs.Rows.{AreInOrder, AreRowsOf, HaveReadRows, HaveRowOfEach}
+use Rattle.ad_maps.specs.Rows.{AreInOrder, AreRowsOf, HaveReadRows, HaveRowOfEach, HaveUnmappedRows, HaveUnmapsTold}
 use Rattle.ad_maps.specs.Seen.{SeatSeen}
 use Rattle.ad_maps.specs.Steps.{Sat}
 use Rattle.ad_maps.specs.Private.Handles.{plan_of}
@@ -47,36 +47,65 @@ pub record IsByNumber (numbered : List ℕ) : Type 0 where
   pub form : (n : ℕ) → n < NUMBERS → slice_index numbered n ≢ 0 → HasPlace (slice_index numbered n)
   pub number : (n : ℕ) → n < NUMBERS → slice_index numbered n ≢ 0 → (place_in (slice_index numbered n)).mapping ≡ n
 
--- the row of a directory word, where each module has so many frames. No mapping is retired yet
-abbrev pub row_at : ℕ → ℕ → Row
-row_at frames word = record {
+-- the word of a member, the members of all batches in order
+abbrev pub member_at : List ℕ → ℕ → ℕ
+member_at words i = slice_index words (MEMBER_BASE + i)
+
+-- the region and the line that a member's word says
+abbrev pub region_in : ℕ → ℕ
+region_in word = word % 2 ^ 16
+
+abbrev pub line_of : ℕ → ℕ
+line_of word = word / 2 ^ 16
+
+-- no two members have one region
+abbrev pub AreMembers : List ℕ → Type 0
+AreMembers words = (i j : ℕ) → i < NUMBERS * MEMBERS → j < NUMBERS * MEMBERS → member_at words i ≢ 0 → member_at words j ≢ 0 → region_in (member_at words i) ≡ region_in (member_at words j) → i ≡ j
+
+-- the lines of the members below k stand at their regions, and 0 at each other region
+pub record AreLined (words : List ℕ) (k : ℕ) (lines : List ℕ) : Type 0 where
+  pub len : length lines ≡ REGION_WORDS
+  pub found : (r : ℕ) → r < REGION_WORDS → slice_index lines r ≢ 0 → (i : ℕ) × (i < k) × (member_at words i ≢ 0) × (region_in (member_at words i) ≡ r)
+  pub each : (i : ℕ) → i < k → member_at words i ≢ 0 → slice_index lines (region_in (member_at words i)) ≡ line_of (member_at words i)
+
+-- the row of a directory word, where each module has so many frames and the lines stand at the regions
+abbrev pub row_at : ℕ → List ℕ → ℕ → Row
+row_at frames lines word = record {
   mapping = (place_in word).mapping;
   kind = Code;
   who = (place_in word).frame / frames;
   place = place_in word;
-  line = 0;
+  line = slice_index lines (place_in word).region;
   unmaps = word / 2 ^ 56;
 }
 
 -- the rows of the words below k, in order
-pub record AreRowsBelow (frames : ℕ) (numbered : List ℕ) (k : ℕ) (rows : List Row) : Type 0 where
-  pub each_word : (n : ℕ) → n < k → slice_index numbered n ≢ 0 → Contains rows (row_at frames (slice_index numbered n))
-  pub each_row : (r : Row) → Contains rows r → (n : ℕ) × (n < k) × (slice_index numbered n ≢ 0) × (r ≡ row_at frames (slice_index numbered n))
+pub record AreRowsBelow (frames : ℕ) (lines numbered : List ℕ) (k : ℕ) (rows : List Row) : Type 0 where
+  pub each_word : (n : ℕ) → n < k → slice_index numbered n ≢ 0 → Contains rows (row_at frames lines (slice_index numbered n))
+  pub each_row : (r : Row) → Contains rows r → (n : ℕ) × (n < k) × (slice_index numbered n ≢ 0) × (r ≡ row_at frames lines (slice_index numbered n))
   pub in_order : AreInOrder rows
   pub below : All (λ (r : Row). r.mapping < k) rows
 
 -- the rows are those of the directory's words that aren't 0, in order of number
-pub record SayRows (frames : ℕ) (words : List ℕ) (rows : List Row) : Type 0 where
-  pub each_word : (r : ℕ) → r < REGION_WORDS → directory_at words r ≢ 0 → Contains rows (row_at frames (directory_at words r))
-  pub each_row : (x : Row) → Contains rows x → (r : ℕ) × (r < REGION_WORDS) × (directory_at words r ≢ 0) × (x ≡ row_at frames (directory_at words r))
+pub record SayRows (frames : ℕ) (lines words : List ℕ) (rows : List Row) : Type 0 where
+  pub each_word : (r : ℕ) → r < REGION_WORDS → directory_at words r ≢ 0 → Contains rows (row_at frames lines (directory_at words r))
+  pub each_row : (x : Row) → Contains rows x → (r : ℕ) × (r < REGION_WORDS) × (directory_at words r ≢ 0) × (x ≡ row_at frames lines (directory_at words r))
   pub in_order : AreInOrder rows
 
--- the rows are those of the mappings that were made, in order of number, and those of what the seats read
+-- the rows are those of the directory's words and the members' lines
+pub record SayLinedRows (frames : ℕ) (words : List ℕ) (rows : List Row) : Type 0 where
+  pub lines : List ℕ
+  pub are : AreLined words (NUMBERS * MEMBERS) lines
+  pub say : SayRows frames lines words rows
+
+-- the rows are those of the mappings that were made, in order of number, and those of what the seats read and unmapped
 pub record AreClosedRows (shape : Shape) (deeds : List Deed) (seats : List SeatSeen) (rows : List Row) : Type 0 where
   pub each_made : HaveRowOfEach (all_made shape deeds) deeds rows
   pub each_row : AreRowsOf (all_made shape deeds) deeds rows
   pub in_order : AreInOrder rows
   pub reads : HaveReadRows rows seats
+  pub unmaps : HaveUnmapsTold rows deeds seats
+  pub unmapped : HaveUnmappedRows rows deeds seats
 
 -- what the seats that came back did
 abbrev pub acts_back : List Hand → List (List Act)

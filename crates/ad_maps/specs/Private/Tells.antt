@@ -1,17 +1,17 @@
 -- What a step tells its seat.
-use Rattle.std.specs.Prelude.{◌≡◌, ◌≢◌, ℕ, ◌/◌, ◌≤◌, slice_index, [], Some}
+use Rattle.std.specs.Prelude.{◌≡◌, ◌≢◌, ℕ, ◌/◌, ◌^◌, ◌<◌, ◌≤◌, ◌+◌, Contains, slice_index, [], Some}
 use Rattle.atomic_table.specs.Table.{Step}
 use Rattle.ad_base.specs.declared.layout.TheConstants.{REGION_BYTES, MAPPINGS}
 use Rattle.ad_base.specs.declared.place.Place.{Place}
 use Rattle.ad_base.specs.Place.{base_of, packed, IsPlace, place_at}
 use Rattle.ad_maps.specs.declared.shape.Shape.{Shape}
+use Rattle.ad_maps.specs.declared.words.TheConstants.{FRAME_WORDS, NUMBERS}
 use Rattle.ad_maps.specs.declared.view.Act.TheVariants as act
-use Rattle.ad_maps.specs.declared.view.Stance.TheVariants as stance
 use Rattle.ad_maps.specs.declared.view.Made.{Made}
 use Rattle.ad_maps.specs.Ledger.{reads_of, NeverFall}
 use Rattle.ad_maps.specs.MapPlace.{nowhere, cell_word, cells_of, IsPlaceOf}
-use Rattle.ad_maps.specs.Steps.{Sat, made, Becomes, after_read, after_act, after_leave, after_look, after_switch}
-use Rattle.ad_maps.specs.Private.Handles.{acts_of, stance_of, pinned_by, plan_of}
+use Rattle.ad_maps.specs.Steps.{Sat, made, Becomes, after_read, after_act, after_leave, after_look, after_open, after_switch, after_unmap}
+use Rattle.ad_maps.specs.Private.Handles.{acts_of, stance_of, pinned_by, plan_of, HasRoom}
 
 -- the word is that of a place of module m
 pub record IsWordOf (shape : Shape) (m : ℕ) (word : ℕ) : Type 0 where
@@ -35,10 +35,15 @@ pub record Cells (shape : Shape) (e : ℕ) (st : Step (Unit {0})) (me : Sat) (fo
   pub becomes : Becomes (after_act (act.Cell e)) st me found me'
   pub word : (g : Made) → pinned_by (stance_of me.0) ≡ Some g → found ≡ cell_word (cells_of shape g.of_module) (base_of g.place) e
 
--- who leaves owes nothing
+-- who leaves finds the number of a batch in the slot's high half
 pub record Leaves (st : Step (Unit {0})) (me : Sat) (found : ℕ) (me' : Sat) : Type 0 where
   pub becomes : Becomes after_leave st me found me'
-  pub away : stance_of me'.0 ≡ stance.Away
+  pub few : found / 2 ^ 32 < NUMBERS
+
+-- who opens a batch leaves a number for one more, where there is another mapping to retire
+pub record Opens (st : Step (Unit {0})) (me : Sat) (found : ℕ) (me' : Sat) : Type 0 where
+  pub becomes : Becomes after_open st me found me'
+  pub room : HasRoom (plan_of me'.0)
 
 -- a look finds 0 or the number of a mapping
 pub record Looks (f : ℕ) (st : Step (Unit {0})) (me : Sat) (found : ℕ) (me' : Sat) : Type 0 where
@@ -50,6 +55,15 @@ pub record Switches (shape : Shape) (g : Made) (st : Step (Unit {0})) (me : Sat)
   pub becomes : Becomes (after_switch g) st me found me'
   pub word : IsWordOf shape g.of_module found
   pub number : (place_at found).mapping ≡ slice_index (plan_of me.0).current g.of_module
+  pub room : (plan_of me.0).batches + 1 < NUMBERS
+  pub new : (h : Made) → Contains (plan_of me.0).outs h → h.place.mapping ≢ (place_at found).mapping
+
+-- an unmap finds the word of the mapping's place, whose frame is one of the table's
+pub record Unmaps (st : Step (Unit {0})) (me : Sat) (found : ℕ) (me' : Sat) : Type 0 where
+  pub becomes : Becomes after_unmap st me found me'
+  pub place : IsPlace (place_at found)
+  pub packs : found ≡ packed (place_at found)
+  pub frame : (place_at found).frame < FRAME_WORDS
 
 -- notes that no step makes
 abbrev pub nothing_made : Made

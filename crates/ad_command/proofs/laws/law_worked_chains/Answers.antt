@@ -1,8 +1,11 @@
-use Rattle.ad_command.proofs.Worked.{an-empty-script, an-option, no-task}
+use Rattle.ad_command.proofs.Worked.{an-empty-script, an-option, no-operand, no-task}
 use Rattle.ad_command.proofs.laws.law_worked_chains.Goals as goal
 
 pub returns-clause-task : goal.returns-clause-task
 returns-clause-task c = no-task
+
+pub returns-clause-operand : goal.returns-clause-operand
+returns-clause-operand c = no-operand
 
 pub returns-clause-option : goal.returns-clause-option
 returns-clause-option c = an-option

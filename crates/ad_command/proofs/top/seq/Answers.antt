@@ -2,6 +2,8 @@ use Rattle.std.proofs.Common.{Err, map, refl}
 use Rattle.std.proofs.lemmas.Result.{err_from_is_err_and}
 use Rattle.ad_base.specs.Book.{contents_of}
 use Rattle.ad_command.specs.declared.top.Prepared.{Prepared}
+use Rattle.ad_command.specs.Command.{Lines}
+use Rattle.ad_command.specs.Ending.{IsDone}
 use Rattle.ad_command.proofs.Commands.{job-ran, job-unloaded, job-unread}
 use Rattle.ad_command.proofs.top.seq.Goals as goal
 
@@ -21,4 +23,4 @@ pub returns : goal.returns
 returns g c =
     let loaded = c.in_ok-loaded.loaded in
     job-ran c.args.script.now c.args.seed c.args.fuel (g.F.Files.outside c.args.files.now) (g.F.Files.outside c.script_of.new.files) c.in_ok-script.script c.in_ok-script.ensures.serves (g.F.Files.outside c.load_images.new.files) loaded.images.items c.in_ok-loaded.ensures.serves
-    (λ (p : Prepared). record { books = map contents_of p.books.items; moves = p.moves.items; rows = p.ledger.items; text = p.text.items }) c.run_job.result loaded.placer.seed c.in_ok-loaded.ensures.seed c.run_job.ensures.done c.run_job.ensures.fault
+    (λ j. IsDone (Lines j)) (λ (p : Prepared). record { books = map contents_of p.books.items; moves = p.moves.items; rows = p.ledger.items; text = p.text.items }) c.run_job.result loaded.placer.seed c.in_ok-loaded.ensures.seed c.run_job.ensures.done c.run_job.ensures.fault

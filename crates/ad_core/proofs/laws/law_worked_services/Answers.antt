@@ -20,4 +20,6 @@ returns c = record {
   in_empty = refl;
   between = refl;
   behind = refl;
+  misaligned_return = refl;
+  abort_before_it = refl;
 }

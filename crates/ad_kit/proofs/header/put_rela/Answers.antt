@@ -3,8 +3,8 @@ use Rattle.ad_kit.specs.ObjectFile.{i64, u64}
 use Rattle.ad_kit.proofs.Appends.{append_more}
 use Rattle.ad_kit.proofs.header.put_rela.Goals as goal
 
-pub returns : goal.returns
-returns c =
+pub returns-clause-bytes : goal.returns-clause-bytes
+returns-clause-bytes c =
     let made = c.args.made in
     let place = u64 made.offset in
     let info = u64 (made.symbol * 2 ^ 32 + made.typ) in

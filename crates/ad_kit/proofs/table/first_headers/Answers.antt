@@ -1,7 +1,8 @@
 use Rattle.std.proofs.Common.{ap, ◌∙◌}
 use Rattle.std.proofs.lemmas.List.{take_all}
 use Rattle.ad_kit.specs.ObjectFile.{number}
-use Rattle.ad_kit.proofs.Numbers.{count_more, headers_all, headers_more, no_section, small_more}
+use Rattle.ad_kit.specs.ReadBack.{no_section}
+use Rattle.ad_kit.proofs.Numbers.{count_more, headers_all, headers_more, small_more}
 use Rattle.ad_kit.proofs.table.first_headers.Goals as goal
 
 pub loop-k-preserved : goal.loop-k-preserved

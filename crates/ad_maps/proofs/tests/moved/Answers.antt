@@ -1,46 +1,34 @@
-use Rattle.std.proofs.Common.{◌≡◌, ℕ, ◌+◌, ◌<◌, List, ◌++◌, [], ◌∷◌, arith, ap, sym, subst}
+use Rattle.std.proofs.Common.{◌+◌, ◌<◌, List, ◌++◌, [], ◌∷◌, set, arith, ap, sym, subst, ◌∙◌}
 use Rattle.std.specs.List.{Contains}
 use Rattle.std.proofs.lemmas.List.Elements.{Contains-push}
 use Rattle.ad_base.specs.declared.place.Place.{Place}
-use Rattle.ad_maps.specs.declared.shape.Shape.{Shape}
-use Rattle.ad_maps.specs.declared.view.Deed.{Deed}
-use Rattle.ad_maps.specs.declared.view.Deed.TheVariants as deed
 use Rattle.ad_maps.specs.declared.view.Made.{Made}
-use Rattle.ad_maps.specs.Ledger.{all_made}
-use Rattle.ad_maps.specs.Seen.{looks_from}
-use Rattle.ad_maps.specs.Steps.{made}
-use Rattle.ad_maps.proofs.Ledgers.{all-after_looks, all-after_map, all-after_switch}
+use Rattle.ad_maps.proofs.Ledgers.{all-after_looks}
+use Rattle.ad_maps.proofs.Trials.{may-look, may-moved}
 use Rattle.ad_maps.proofs.tests.moved.Goals as goal
 
--- what was made is below a number, and so is the new mapping, after the looks, the map and the switch of a move
-moved-all : (f : Made → ℕ) (n : ℕ) (shape : Shape) (d0 d1 d2 d3 : List Deed) (first : ℕ) (os : List ℕ) (m k : ℕ) (p q : Place) → d1 ≡ d0 ++ looks_from first os → d2 ≡ d1 ++ deed.Map m p ∷ [] → d3 ≡ d2 ++ deed.Switch k q ∷ []
-    → ((x : Made) → Contains (all_made shape d0) x → f x < n) → f (made m p) < 1 + n → (x : Made) → Contains (all_made shape d3) x → f x < 1 + n
-moved-all f n shape d0 d1 d2 d3 first os m k p q looks map switch old new = all-after_switch (λ x. f x < 1 + n) shape d2 d3 k q switch
-    (subst (λ (ds : List Deed). (x : Made) → Contains (all_made shape ds) x → f x < 1 + n) (sym map)
-    (all-after_map (λ x. f x < 1 + n) shape d1 m p (all-after_looks (λ x. f x < 1 + n) shape d0 d1 first os looks (λ x c. let l = old x c in omega arith)) new))
-
-pub returns-in-Err-clause-above : goal.returns-in-Err-clause-above
-returns-in-Err-clause-above c = all-after_looks (λ x. x.place.mapping < 1 + c.args.number) c.args.maps.now.shape c.args.mover.now.deeds c.room.new.mover.deeds _ _ c.in-Err.ensures.none.looks (λ x m. let l = c.requires.above x m in omega arith)
-
-pub returns-in-Err-clause-region : goal.returns-in-Err-clause-region
-returns-in-Err-clause-region c = all-after_looks (λ x. x.place.region < 3 + c.args.number) c.args.maps.now.shape c.args.mover.now.deeds c.room.new.mover.deeds _ _ c.in-Err.ensures.none.looks (λ x m. let l = c.requires.region x m in omega arith)
-
 pub map-mapped-requires-clause-above : goal.map-mapped-requires-clause-above
-map-mapped-requires-clause-above c = all-after_looks (λ x. x.place.mapping < c.test_place-place.result.mapping) c.args.maps.now.shape c.args.mover.now.deeds c.room.new.mover.deeds _ _ c.in-Ok.ensures.found.looks (λ x m. let l = c.requires.above x m in let is = ap (λ (p : Place). p.mapping) c.test_place-place.ensures in omega arith)
+map-mapped-requires-clause-above c = all-after_looks (λ x. x.place.mapping < c.test_place-place.result.mapping) c.args.maps.now.shape c.args.mover.now.deeds c.room.new.mover.deeds _ _ c.in-Ok.ensures.found.looks (λ x m. let l = c.requires.may.above x m in let is = ap (λ (p : Place). p.mapping) c.test_place-place.ensures in omega arith)
 
 pub map-mapped-requires-clause-region : goal.map-mapped-requires-clause-region
 map-mapped-requires-clause-region c x there same =
-    let below = all-after_looks (λ x. x.place.region < 2 + c.args.number) c.args.maps.now.shape c.args.mover.now.deeds c.room.new.mover.deeds _ _ c.in-Ok.ensures.found.looks c.requires.region x there in
+    let below = all-after_looks (λ x. x.place.region < 2 + c.args.number) c.args.maps.now.shape c.args.mover.now.deeds c.room.new.mover.deeds _ _ c.in-Ok.ensures.found.looks c.requires.may.region x there in
     let is = ap (λ (p : Place). p.region) c.test_place-place.ensures in
     omega arith
 
 pub switch-out-requires-clause-fresh : goal.switch-out-requires-clause-fresh
 switch-out-requires-clause-fresh c = subst (λ (gs : List Made). Contains gs c.map-mapped.result) (sym c.map-mapped.ensures.fresh) (Contains-push c.room.new.mover.fresh c.map-mapped.result)
 
-pub returns-clause-above : goal.returns-clause-above
-returns-clause-above c = moved-all (λ x. x.place.mapping) c.args.number c.args.maps.now.shape c.args.mover.now.deeds c.room.new.mover.deeds c.map-mapped.new.mover.deeds c.switch-out.new.mover.deeds _ _ _ _ _ _ c.in-Ok.ensures.found.looks c.map-mapped.ensures.deeds c.switch-out.ensures.deeds c.requires.above (let is = ap (λ (p : Place). p.mapping) c.test_place-place.ensures in omega arith)
+pub returns-in-Err : goal.returns-in-Err
+returns-in-Err c = may-look c.args.maps.now c.args.mover.now c.room.new.mover c.args.outs.now.items c.args.number _ _ c.requires.may c.in-Err.ensures.table c.in-Err.ensures.current c.in-Err.ensures.outs c.in-Err.ensures.none.looks
 
-pub returns-clause-region : goal.returns-clause-region
-returns-clause-region c x there =
-    let below = moved-all (λ x. x.place.region) (2 + c.args.number) c.args.maps.now.shape c.args.mover.now.deeds c.room.new.mover.deeds c.map-mapped.new.mover.deeds c.switch-out.new.mover.deeds _ _ _ _ _ _ c.in-Ok.ensures.found.looks c.map-mapped.ensures.deeds c.switch-out.ensures.deeds c.requires.region (let is = ap (λ (p : Place). p.region) c.test_place-place.ensures in omega arith) x there in
-    omega arith
+pub returns : goal.returns
+returns c = may-moved c.args.maps.now c.args.mover.now c.room.new.mover c.map-mapped.new.mover c.switch-out.new.mover c.args.outs.now.items c.push.new.self.items c.args.number _ _ _ _ _ _ c.switch-out.result c.requires.may
+    c.in-Ok.ensures.found.looks c.map-mapped.ensures.deeds c.switch-out.ensures.deeds
+    (c.switch-out.ensures.table ∙ (c.map-mapped.ensures.table ∙ c.in-Ok.ensures.table))
+    (c.switch-out.ensures.current ∙ (λ i. set ((c.map-mapped.ensures.current ∙ c.in-Ok.ensures.current) i) c.map-mapped.result.of_module ((ap (λ (g : Made). g.place.mapping) c.map-mapped.ensures.mapped ∙ ap (λ (p : Place). p.mapping) c.test_place-place.ensures) i)))
+    (c.switch-out.ensures.outs ∙ ap (λ (gs : List Made). gs ++ c.switch-out.result ∷ []) (c.map-mapped.ensures.outs ∙ c.in-Ok.ensures.outs))
+    c.in_ok-push.ensures.items
+    (ap (λ (p : Place). p.mapping) c.test_place-place.ensures)
+    (ap (λ (p : Place). p.region) c.test_place-place.ensures)
+    (λ g there. c.switch-out.ensures.new g (subst (λ (gs : List Made). Contains gs g) (sym (c.map-mapped.ensures.outs ∙ c.in-Ok.ensures.outs)) there))

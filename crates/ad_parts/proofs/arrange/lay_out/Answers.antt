@@ -1,10 +1,7 @@
 use Rattle.std.proofs.Common.{◌≡◌, List, [], ap, ap₂, find, inr, not, subst, sym, ◌∙◌}
-use Rattle.std.specs.List.{AllZip}
 use Rattle.std.specs.Option.{option_map}
 use Rattle.ad_elf.specs.declared.object.Section.{Section}
-use Rattle.ad_parts.specs.declared.layout.Spot.{Spot}
-use Rattle.ad_parts.specs.Layout.{sizes, spots, spots_behind}
-use Rattle.ad_parts.specs.Private.Lying.{Lies}
+use Rattle.ad_parts.specs.Layout.{ends, sizes, spots, spots_behind}
 use Rattle.ad_parts.specs.Ends.{AreEnds, AreShort, is_aligned}
 use Rattle.ad_parts.proofs.Arranged.{section_row-alignment, section_row-pages, option_map_none}
 use Rattle.ad_parts.proofs.Fitted.{spots_lie}
@@ -37,4 +34,5 @@ returns-clause-lie c =
     let same : c.in_ok-spots.spots.items ≡ spots c.args.object.now.sections =
     c.in_ok-spots.ensures
     ∙ ap₂ (λ z ss. spots_behind z [] ss) (c.in-Ok.ensures.fine ∙ ap sizes (AreEnds-is c.args.object.now.sections c.ends_of.result are)) c.as_slice-sections.ensures in
-    subst (λ (ts : List Spot). AllZip Lies c.args.object.now.sections ts) (sym same) lie
+    let sized : c.in-Ok.sizes ≡ sizes (ends c.args.object.now.sections) = c.in-Ok.ensures.fine ∙ ap sizes (AreEnds-is c.args.object.now.sections c.ends_of.result are) in
+    rw (same, sized) lie

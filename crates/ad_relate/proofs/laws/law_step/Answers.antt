@@ -1,5 +1,5 @@
-use Rattle.ad_relate.proofs.Steps.{step-leaves, step-stands-after}
+use Rattle.ad_relate.proofs.Steps.{step-leaves, step-stands}
 use Rattle.ad_relate.proofs.laws.law_step.Goals as goal
 
 pub returns : goal.returns
-returns c = record { stands = step-stands-after; ready = step-leaves }
+returns c = record { stands = step-stands; ready = step-leaves }

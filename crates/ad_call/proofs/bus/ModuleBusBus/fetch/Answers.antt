@@ -1,39 +1,22 @@
-use Rattle.std.proofs.Common.{◌≡◌, ℕ, ◌+◌, ◌%◌, ◌≤◌, ◌∙◌, inl, inr, refl, sym, Some, None, length, arith}
-use Rattle.ad_base.specs.declared.layout.TheConstants.{FETCH_BYTES}
+use Rattle.std.proofs.Common.{◌≡◌, ◌≢◌, ◌+◌, ◌≤◌, ◌∙◌, inl, inr, refl, sym, length, Some, ◌-◌, ◌%◌, ◌^◌, arith}
+use Rattle.ad_base.specs.declared.layout.TheConstants.{FETCH_BYTES, GATE}
+use Rattle.ad_base.specs.declared.role.Role.TheVariants.{Code}
 use Rattle.ad_base.specs.Layout.{size_of}
-use Rattle.ad_call.specs.declared.bus.ModuleBus.{ModuleBus}
 use Rattle.ad_call.specs.declared.spot.Spot.{Spot}
-use Rattle.ad_call.specs.Private.Spots.{spot_at}
-use Rattle.ad_call.proofs.BusPieces.{bytes_in, fits-at, held-at, length-in, segments_in}
-use Rattle.ad_call.proofs.Reached.{fetched-gate, fetched-none, fetched-region, fetched-some}
+use Rattle.ad_call.specs.Private.InBus.{segments_in}
+use Rattle.ad_call.proofs.BusPieces.{bytes_in, clear-text-at, fits-at, held-at, length-in}
+use Rattle.ad_call.proofs.Reached.{fetched-some}
 use Rattle.ad_call.proofs.bus.ModuleBusBus.fetch.Goals as goal
 
--- a word lies inside its piece
-word-inside : (b : ModuleBus) (at : ℕ) (spot : Spot) → at % FETCH_BYTES ≡ 0 → spot_at b.image.now b.under b.stack at ≡ Some spot → spot.offset + FETCH_BYTES ≤ size_of b.image.now spot.role
-word-inside b at spot aligned is =
-    let inside : spot.offset + FETCH_BYTES ≤ length (bytes_in b spot.role) = fits-at b FETCH_BYTES at spot (inr (inr (inl refl))) aligned is in
-    let long : length (bytes_in b spot.role) ≡ size_of b.image.now spot.role = length-in b spot.role in
-    omega arith
-
-pub returns-then-at-eq-GATE-clause-found : goal.returns-then-at-eq-GATE-clause-found
-returns-then-at-eq-GATE-clause-found c = sym (fetched-gate (segments_in c.args.self.now) c.args.at c.if-at-eq-GATE.true)
-
-pub returns-then-at-eq1-clause-found : goal.returns-then-at-eq1-clause-found
-returns-then-at-eq1-clause-found c = c.service_at.ensures ∙ sym (fetched-region (segments_in c.args.self.now) c.args.at c.requires c.if-at-eq-GATE.false c.if-at-eq1.true)
-
-pub word-requires : goal.word-requires
-word-requires c = word-inside c.args.self.now c.args.at c.in-Some.spot c.requires (sym c.locate.ensures ∙ c.in-Some.is)
-
-pub returns-in-Some-clause-found : goal.returns-in-Some-clause-found
-returns-in-Some-clause-found c =
+pub returns-then-offset-self-clause-found : goal.returns-then-offset-self-clause-found
+returns-then-offset-self-clause-found c =
     let b = c.args.self.now in
-    let spot = c.in-Some.spot in
-    let is = sym c.locate.ensures ∙ c.in-Some.is in
-    let inside = word-inside b c.args.at spot c.requires is in
+    let at = c.args.at in
+    let clear = clear-text-at b at c.ranges.at.fits c.if-offset-self.true in
+    let spot : Spot = record { role = Code; offset = (at + (2 ^ 64 - b.bounds.text_base)) % 2 ^ 64 } in
+    let fits : spot.offset + FETCH_BYTES ≤ length (bytes_in b Code) = fits-at b FETCH_BYTES at spot (inr (inr (inl refl))) c.requires clear.spot in
+    let long : length (bytes_in b Code) ≡ size_of b.image.now Code = length-in b Code in
+    let inside : spot.offset + FETCH_BYTES ≤ size_of b.image.now Code = omega (arith, fits, long) in
+    let away : at ≢ GATE = λ e. clear.behind (omega (arith, e)) in
     c.word.ensures
-    ∙ sym (fetched-some (segments_in b) c.args.at c.requires c.if-at-eq-GATE.false b.image.now b.under b.bytes.stack b.bytes.fixed b.bytes.writable spot c.if-at-eq1.false inside (held-at b c.args.at (Some spot) is))
-
-pub returns-in-None-clause-found : goal.returns-in-None-clause-found
-returns-in-None-clause-found c =
-    let b = c.args.self.now in
-    sym (fetched-none (segments_in b) c.args.at c.requires c.if-at-eq-GATE.false c.if-at-eq1.false (held-at b c.args.at None (sym c.locate.ensures ∙ c.in-None.is)))
+    ∙ sym (fetched-some (segments_in b) at c.requires away b.image.now b.under b.bytes.stack b.bytes.fixed b.bytes.writable spot clear.behind inside (held-at b at (Some spot) clear.spot))

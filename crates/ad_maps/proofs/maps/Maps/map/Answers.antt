@@ -5,6 +5,7 @@ use Rattle.ad_maps.specs.declared.view.Made.{Made}
 use Rattle.ad_maps.specs.Ledger.{all_made}
 use Rattle.ad_maps.specs.MapPlace.{IsPlaceOf}
 use Rattle.ad_maps.specs.Seen.{OpenMaps, MoverSeen, RoomSeen}
+use Rattle.ad_maps.proofs.Idle.{mapped-idle}
 use Rattle.ad_maps.proofs.maps.Maps.map.Goals as goal
 
 pub make-requires-clause-may : goal.make-requires-clause-may
@@ -19,3 +20,6 @@ make-requires-clause-may c =
       above = λ x there. c.requires.above x (subst (λ (gs : List Made). Contains gs x) (λ i. all_made (shape i) (deeds i)) there);
       region = λ x there. c.requires.region x (subst (λ (gs : List Made). Contains gs x) (λ i. all_made (shape i) (deeds i)) there);
     }
+
+pub invariant_of-mover : goal.invariant_of-mover
+invariant_of-mover c = mapped-idle _ _ _ c.mover.invariant _ _ c.make.ensures.view

@@ -1,0 +1,204 @@
+"""Compares the predictions of random short programs with their runs. README.md says what is compared.
+
+    python3 compare.py [PROGRAMS [SEED]]
+
+PROGRAMS is how many are made, 10,000 by default, and SEED what they are chosen by, 0 by default. With ADELIE=FILE
+in the environment that program is asked; else the one that ./adelie has built.
+"""
+
+import os
+import random
+import subprocess
+import sys
+import tempfile
+from collections import Counter
+from pathlib import Path
+
+TOP = Path(__file__).resolve().parents[2]
+sys.path.insert(0, str(TOP / "examples"))
+from mkobject import mkobject  # noqa: E402
+
+RA, SP, T0, T1, T2, A0, A1, A2, A3 = 1, 2, 5, 6, 7, 10, 11, 12, 13
+SCRATCH = [T0, T1, A0, A1, A2, A3]
+READ = SCRATCH + [SP, 0]
+# What a script does with its module: three calls before a move, one between two moves, two behind them.
+STEPS = ["call", "call", "call", "move", "call", "move", "call", "call"]
+EDGES = [0, 1, 2, 7, 8, 4095, 4096, 16384, 2**19 - 1, 2**19, 2**31, 2**34 - 1, 2**34, 2**63, 2**64 - 1]
+
+
+def register_form(opcode, f3, f7, rd, rs1, rs2):
+    return f7 << 25 | rs2 << 20 | rs1 << 15 | f3 << 12 | rd << 7 | opcode
+
+
+def immediate_form(opcode, f3, rd, rs1, value):
+    return (value & 0xFFF) << 20 | rs1 << 15 | f3 << 12 | rd << 7 | opcode
+
+
+def store_form(f3, rs1, rs2, value):
+    return (value >> 5 & 0x7F) << 25 | rs2 << 20 | rs1 << 15 | f3 << 12 | (value & 0x1F) << 7 | 0x23
+
+
+def branch_form(f3, rs1, rs2, value):
+    high = (value >> 12 & 1) << 6 | (value >> 5 & 0x3F)
+    low = (value >> 1 & 0xF) << 1 | (value >> 11 & 1)
+    return high << 25 | rs2 << 20 | rs1 << 15 | f3 << 12 | low << 7 | 0x63
+
+
+def upper_form(opcode, rd, pages):
+    return (pages & 0xFFFFF) << 12 | rd << 7 | opcode
+
+
+def addi(rd, rs1, value):
+    return immediate_form(0x13, 0, rd, rs1, value)
+
+
+def arithmetic(choice):
+    """An operation of registers, of 64 or 32 bits."""
+    opcode, f7, rows = choice.choice(
+        [
+            (0x33, 0, range(8)),
+            (0x33, 0, [0, 2, 3, 4, 6, 7]),
+            (0x33, 0x20, [0, 5]),
+            (0x33, 1, range(8)),
+            (0x3B, 0, [0, 1, 5]),
+            (0x3B, 0x20, [0, 5]),
+            (0x3B, 1, [0, 4, 5, 6, 7]),
+        ]
+    )
+    f3 = choice.choice(list(rows))
+    return [register_form(opcode, f3, f7, choice.choice(SCRATCH), choice.choice(READ), choice.choice(READ))]
+
+
+def constant(choice):
+    """An operation of a register and a constant."""
+    rd, rs1 = choice.choice(SCRATCH), choice.choice(READ)
+    if choice.random() < 0.2:
+        return [immediate_form(0x13, 1, rd, rs1, choice.randrange(64))]
+    if choice.random() < 0.2:
+        return [immediate_form(0x1B, 0, rd, rs1, choice.randrange(-2048, 2048))]
+    value = choice.choice([0, 1, -1, -2, -4, -8, 7, 15, choice.randrange(-2048, 2048)])
+    return [immediate_form(0x13, choice.choice([0, 0, 0, 2, 3, 4, 6, 7]), rd, rs1, value)]
+
+
+def address(choice):
+    """An address of the stack or of the text in a register."""
+    rd = choice.choice(SCRATCH)
+    if choice.random() < 0.6:
+        return [addi(rd, SP, -8 * choice.randrange(0, 8))]
+    return [upper_form(0x17, rd, choice.choice([0, 0, 0, 1, -1, 4]))]
+
+
+def upper(choice):
+    """A number in a register: one of the immovable side, or any."""
+    return [upper_form(0x37, choice.choice(SCRATCH), choice.choice([0x40, 0x80, 1, choice.randrange(2**20)]))]
+
+
+def access(choice):
+    """A load or a store, mostly on the stack."""
+    base = choice.choice([SP, SP, SP, T0, T1])
+    f3 = choice.choice([3, 3, 3, 2, 1, 0])
+    value = -8 * choice.randrange(1, 6) + choice.choice([0, 0, 0, 0, 4, 1])
+    if choice.random() < 0.5:
+        return [store_form(f3, base, choice.choice(READ + [RA]), value)]
+    return [immediate_form(0x03, f3 | choice.choice([0, 4]) if f3 != 3 else 3, choice.choice(SCRATCH), base, value)]
+
+
+def part_of_address(choice):
+    """A store of an address, and a load of all of it or a part."""
+    at = -8 * choice.randrange(1, 4)
+    load = immediate_form(0x03, choice.choice([0, 2, 3, 6]), choice.choice(SCRATCH), SP, at + choice.choice([0, 0, 4]))
+    return [store_form(3, SP, SP, at), load]
+
+
+def branch(choice):
+    """A branch over the next instruction or two, or to nowhere."""
+    f3 = choice.choice([0, 1, 4, 5, 6, 7])
+    return [branch_form(f3, choice.choice(READ), choice.choice(READ), choice.choice([8, 8, 8, 12, 6, -4096]))]
+
+
+def service(choice):
+    """A call of a service, or of what lies beside them."""
+    at = 16 * choice.choice([0, 1, 1, 2, 3, 4, 4, 5, 6]) + choice.choice([0, 0, 0, 0, 0, 4])
+    return [upper_form(0x37, T1, 0x40), immediate_form(0x67, 0, RA, T1, at)]
+
+
+def program(choice):
+    """The words of a short program that returns to its caller, if it comes to its end."""
+    pieces = [arithmetic, constant, constant, address, address, upper, access, access, branch, service, part_of_address]
+    words = [addi(T2, RA, 0)]
+    for _ in range(choice.randrange(1, 9)):
+        words += choice.choice(pieces)(choice)
+    return words + [immediate_form(0x67, 0, 0, T2, 0)]
+
+
+def script(choice):
+    """A script that calls and moves the module, as text."""
+    lines = ["load m f.o"]
+    for step in STEPS:
+        arguments = " ".join(str(choice.choice(EDGES + [choice.randrange(2**64)])) for _ in range(4))
+        lines.append(f"call 0 m.f {arguments}" if step == "call" else "move m")
+    return "\n".join(lines) + "\n"
+
+
+def answers(adelie, command, folder):
+    """What a command says of each call, by its line."""
+    done = subprocess.run([adelie, command, "s"], cwd=folder, capture_output=True, text=True, check=True)
+    said = {}
+    for line in done.stdout.splitlines():
+        head, colon, answer = line.partition(": ")
+        if colon and head.startswith("call "):
+            said[int(head.split()[1])] = answer
+    return said
+
+
+def kind(answer):
+    """What a prediction is: clear, unclear, keeps or lost."""
+    first = answer.split()[0]
+    return first if first in ("unclear", "keeps", "lost") else "clear"
+
+
+def fault(predicted, run):
+    """Why these two disagree, or None."""
+    if predicted.keys() != run.keys() or len(run) != STEPS.count("call"):
+        return "other calls"
+    is_lost = False
+    for line, answer in predicted.items():
+        if kind(answer) == "clear" and answer != run[line]:
+            return f"line {line} is predicted as '{answer}' and replies '{run[line]}'"
+        if (kind(answer) == "lost") != is_lost:
+            return f"line {line} is '{answer}'"
+        is_lost = is_lost or kind(answer) != "clear"
+    return None
+
+
+def main():
+    programs = int(sys.argv[1]) if len(sys.argv) > 1 else 10_000
+    choice = random.Random(int(sys.argv[2]) if len(sys.argv) > 2 else 0)
+    adelie = Path(os.environ.get("ADELIE", TOP / "crates/adelie/out/adelie")).resolve()
+    if not adelie.is_file():
+        sys.exit("compare.py: run ./adelie first, which builds the program")
+    seen = Counter()
+    with tempfile.TemporaryDirectory() as folder:
+        for number in range(programs):
+            words = program(choice)
+            Path(folder, "f.o").write_bytes(mkobject(b"f", words))
+            text = script(choice)
+            Path(folder, "s").write_text(text)
+            predicted, run = answers(adelie, "predict", folder), answers(adelie, "seq", folder)
+            why = fault(predicted, run)
+            if why:
+                sys.exit(f"compare.py: program {number}: {why}\n{' '.join(f'0x{w:08x}' for w in words)}\n{text}")
+            for answer in predicted.values():
+                seen[kind(answer)] += 1
+                if kind(answer) == "unclear":
+                    seen["reason " + answer.split()[-1]] += 1
+                if kind(answer) == "clear":
+                    seen["ends by " + answer.split()[0]] += 1
+                    seen["with notes"] += " notes " in answer
+    print(f"programs {programs}: each clear answer is the reply")
+    for what, calls in sorted(seen.items()):
+        print(f"{what:20} {calls:8}")
+
+
+if __name__ == "__main__":
+    main()

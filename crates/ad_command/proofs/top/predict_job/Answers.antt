@@ -1,0 +1,13 @@
+use Rattle.std.proofs.Common.{◌∙◌, ap, sym, subst, arith}
+use Rattle.std.specs.List.{All}
+use Rattle.ad_lines.specs.Ready.{IsRunnable, ready_steps}
+use Rattle.ad_command.proofs.Jobs.{are-steps}
+use Rattle.ad_command.proofs.top.predict_job.Goals as goal
+
+pub predict-requires-clause-runnable : goal.predict-requires-clause-runnable
+predict-requires-clause-runnable c =
+    let s = c.args.script.now in
+    let images = c.args.loaded.now.images.items in
+    let steps = c.in_ok-steps.steps.items in
+    let are = are-steps images s steps c.requires.range (omega (arith, c.requires.each)) (ap (λ is. ready_steps is s.steps) (sym c.deref.ensures.value) ∙ c.in_ok-steps.ensures.ready) in
+    subst (All (IsRunnable c.deref-2.result.now s.workers)) (sym c.deref-3.ensures.value) (subst (λ is. All (IsRunnable is s.workers) steps) (sym c.deref-2.ensures.value) are.runnable)

@@ -1,0 +1,10 @@
+//! The link of a module: from the bytes of its object file to what is to be mapped.
+#![tactic(auto)]
+
+mod planning;
+mod refusal;
+#[cfg(test)]
+mod tests;
+
+pub use planning::{LinkPlan, plan};
+pub use refusal::LinkRefusal;

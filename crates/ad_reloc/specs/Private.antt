@@ -1,0 +1,4 @@
+pub mod Indexed
+pub mod HighPlaces
+pub mod Small
+pub mod Linking

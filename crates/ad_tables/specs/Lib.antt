@@ -1,0 +1,3 @@
+pub mod Symbols
+pub mod Tables
+pub mod Private
