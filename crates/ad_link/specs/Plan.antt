@@ -9,6 +9,8 @@ use Rattle.ad_parts.specs.declared.layout.Layout.{Layout}
 use Rattle.ad_parts.specs.declared.layout.Sizes.{Sizes}
 use Rattle.ad_parts.specs.Parts.{IsLayout}
 use Rattle.ad_parts.specs.Parts as parts
+use Rattle.ad_base.specs.declared.place.Place.{Place}
+use Rattle.ad_reloc.specs.Refusals as reloc
 use Rattle.ad_tables.specs.declared.table_set.TableSet.{TableSet}
 use Rattle.ad_tables.specs.Tables.{AreTables}
 use Rattle.ad_tables.specs.Tables as tables
@@ -39,7 +41,16 @@ abbrev pub IsRefused : List ℕ → LinkRefusal → Type 0
 IsRefused bytes (refusal.Object r) = file.IsRefused bytes r
 IsRefused bytes (refusal.Parts r) = (o : Object) × IsObject bytes o × parts.IsRefused o r
 IsRefused bytes (refusal.Tables r) = (o : Object) × (l : Layout) × IsObject bytes o × IsLayout o l × tables.IsRefused o l r
+IsRefused bytes (refusal.Reloc r) = ⊥
 IsRefused bytes refusal.OutOfMemory = ⊥
+
+-- The plan is refused so with the immovable part at a place: a relocation can't be applied.
+abbrev pub IsRefusedAt : Place → Planned → LinkRefusal → Type 0
+IsRefusedAt fixed p (refusal.Object r) = ⊥
+IsRefusedAt fixed p (refusal.Parts r) = ⊥
+IsRefusedAt fixed p (refusal.Tables r) = ⊥
+IsRefusedAt fixed p (refusal.Reloc r) = reloc.IsRefused p.object p.layout p.tables fixed r
+IsRefusedAt fixed p refusal.OutOfMemory = ⊥
 
 -- the pages of each part
 abbrev pub movable_pages : Sizes → ℕ

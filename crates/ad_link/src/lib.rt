@@ -1,6 +1,7 @@
 //! The link of a module: from the bytes of its object file to what is to be mapped.
 #![tactic(auto)]
 
+mod finishing;
 mod planning;
 mod refusal;
 #[cfg(test)]

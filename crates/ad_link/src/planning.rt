@@ -15,9 +15,9 @@ use std::marker::Model;
 /// A module that is linked but for the place of its immovable part.
 #[derive(Debug, Drop)]
 pub struct LinkPlan {
-    object: Object,
-    layout: Layout,
-    tables: TableSet,
+    pub(crate) object: Object,
+    pub(crate) layout: Layout,
+    pub(crate) tables: TableSet,
 }
 
 impl Model for LinkPlan {

@@ -4,3 +4,13 @@ pub mod HighPlaces
 pub mod Low
 pub mod Linkable
 pub mod Applied
+pub mod Spellable
+pub mod Laid
+pub mod Stubbed
+pub mod Applying
+pub mod Celled
+pub mod Pointed
+pub mod Fitted
+pub mod TablesFit
+pub mod FieldsFit
+pub mod Whole

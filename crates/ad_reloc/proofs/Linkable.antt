@@ -18,7 +18,7 @@ use Rattle.ad_tables.specs.Tables.{AreTables, section_words}
 use Rattle.ad_tables.specs.declared.refusal.TableRefusal.TheVariants.{LocalFull}
 use Rattle.ad_reloc.specs.Private.Small.{AreSmall}
 
-some_none : {X : Type 0} (x : X) → Some x ≡ None → ⊥
+pub some_none : {X : Type 0} (x : X) → Some x ≡ None → ⊥
 some_none x e = cc
 
 -- what lies in its area begins in it
@@ -35,7 +35,7 @@ begin_in_areas z [] (t ∷ ts) all = absurd all
 begin_in_areas z (s ∷ ss) [] all = absurd all
 begin_in_areas z (s ∷ ss) (t ∷ ts) all = all_cons (λ (t : Spot). t.offset ≤ area_to z (area_at t)) t ts (omega (arith, all.0.upto)) (begin_in_areas z ss ts all.1)
 
-or_parts : {X : Type 0} (x y : Option X) → option_or x y ≡ None → (x ≡ None) × (y ≡ None)
+pub or_parts : {X : Type 0} (x y : Option X) → option_or x y ≡ None → (x ≡ None) × (y ≡ None)
 or_parts None y e = (refl, e)
 or_parts (Some x) y e = absurd (some_none x e)
 
@@ -44,7 +44,7 @@ map_none f None e = refl
 map_none f (Some x) e = absurd (some_none (f x) e)
 
 -- no part has more pages than it may have
-few : (o : Object) (l : Layout) → IsLayout o l → (movable_pages (ends o.sections) ≤ PART_PAGES) × (fixed_pages (ends o.sections) ≤ PART_PAGES)
+pub few : (o : Object) (l : Layout) → IsLayout o l → (movable_pages (ends o.sections) ≤ PART_PAGES) × (fixed_pages (ends o.sections) ≤ PART_PAGES)
 few o l laid =
     let e = ends o.sections in
     let rows = or_parts (section_row o) (export_row (all_exports o)) laid.no_row in
@@ -58,7 +58,7 @@ few o l laid =
       ])
     ]
 
-local_fits : (o : Object) (l : Layout) (t : TableSet) → AreTables o l t → l.sizes.local_bytes ≤ 4096
+pub local_fits : (o : Object) (l : Layout) (t : TableSet) → AreTables o l t → l.sizes.local_bytes ≤ 4096
 local_fits o l t h =
     let row = h.no_row in
     elim (cases_Bool (nat_lt LOCAL_WORDS (section_words l))) [

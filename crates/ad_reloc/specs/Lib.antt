@@ -6,3 +6,4 @@ pub mod Addresses
 pub mod Highs
 pub mod Refusals
 pub mod Private
+pub mod Image

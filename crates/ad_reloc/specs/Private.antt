@@ -2,3 +2,4 @@ pub mod Indexed
 pub mod HighPlaces
 pub mod Small
 pub mod Linking
+pub mod Parts

@@ -65,7 +65,7 @@ pub(crate) fn local_from(sizes: Sizes) -> u64
 pub(crate) fn address_of(fixed: Place, symbol: Resolved) -> u128
     requires { IsLow symbol }
     ensures value { result ≡ address_of fixed symbol }
-    ensures small { result < 2 ^ 65 }
+    ensures small { result < 2 ^ 64 }
 {
     match symbol {
         Resolved::Movable(offset) => offset,

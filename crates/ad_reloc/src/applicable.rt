@@ -21,7 +21,7 @@ use std::alloc::Global;
 /// Whether the relocations of an object may be applied that has this layout and these tables, with its immovable part at a
 /// place; or the first reason why not. It takes time that is linear in the relocations but for looking up sections, symbols
 /// and words.
-pub fn check_relocations(
+pub(crate) fn check_relocations(
     alloc: Global,
     object: &Object,
     layout: &Layout,
@@ -43,7 +43,7 @@ pub fn check_relocations(
 }
 
 /// What the entries of an object are looked at with.
-fn link<'a>(
+pub(crate) fn link<'a>(
     alloc: Global,
     object: &'a Object,
     layout: &'a Layout,

@@ -71,7 +71,7 @@ fn is_far(typ: u32) -> bool
 }
 
 /// Whether the section that an entry applies to is in the local area.
-fn in_local_area(layout: &Layout, rela: &Rela) -> bool
+pub(crate) fn in_local_area(layout: &Layout, rela: &Rela) -> bool
     requires { AreInOrder layout.now.spots }
     ensures { result ≡ in_local_area layout.now rela.now }
 {

@@ -9,7 +9,7 @@ use crate::halves::halves_of;
 use crate::row::Form;
 
 /// The number of a field's bytes, the lowest first, once the field spells a value. Only the bits that spell it change.
-pub fn spelled(form: Form, value: i128, field: u64) -> u64
+pub(crate) fn spelled(form: Form, value: i128, field: u64) -> u64
     requires value { CanSpell form value }
     requires field { field < 256 ^ bytes_of form }
     ensures value { Spells form value field result }

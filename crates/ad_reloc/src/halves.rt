@@ -14,7 +14,7 @@ pub struct Halves {
 }
 
 /// The halves of a number.
-pub fn halves_of(value: i64) -> Halves
+pub(crate) fn halves_of(value: i64) -> Halves
     requires { HasHalves value }
     ensures halves { AreHalves value result.high result.low }
     ensures small { IsMultiple 0x1000 0x80000000 (pos 4096 *ℤ result.high) }

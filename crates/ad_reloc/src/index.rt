@@ -38,6 +38,13 @@ impl<'a> Index<'a> {
         })
     }
 
+    /// The list.
+    pub(crate) fn symbols(&self) -> &[u64]
+        ensures { result.now ≡ self.now }
+    {
+        self.symbols
+    }
+
     /// Where a symbol is in the list first, if it is there.
     pub(crate) fn place(&self, symbol: u64) -> Option<u64>
         ensures value { result ≡ place_in self.now symbol }

@@ -1,28 +1,31 @@
-//! The fields of relocations: what is put into them, and how they spell it.
+//! The image of an object: its sections where they go, with its relocations applied.
 #![tactic(auto)]
 
 mod addresses;
 mod applicable;
+mod apply;
 mod checks;
 mod entries;
 mod fields;
 mod halves;
 mod highs;
+mod image;
 mod index;
 mod laws;
 mod linking;
 mod part;
+mod parts;
 mod refusal;
 mod row;
+mod stubs;
+mod tables;
 #[cfg(test)]
 mod tests;
 mod words;
 
-pub use applicable::check_relocations;
-pub use fields::spelled;
-pub use halves::{Halves, halves_of};
+pub use halves::Halves;
+pub use image::relocate;
 pub use laws::law_halves;
-pub use part::set_field;
 pub use refusal::RelocRefusal;
-pub use row::{Form, Formula, Row, row_of};
+pub use row::{Form, Formula, Row};
 pub use words::STUB_BYTES;

@@ -10,7 +10,7 @@ use ad_base::{field_u32, field_u64};
 use byteorder::{ByteOrder, LittleEndian};
 
 /// Sets the field at an offset to what a row makes of a value.
-pub fn set_field(bytes: &mut [u8], at: u64, row: Row, value: i128)
+pub(crate) fn set_field(bytes: &mut [u8], at: u64, row: Row, value: i128)
     requires inside { at + bytes_of row.form ≤ length bytes.old }
     requires from { neg_ℤ (pos (2 ^ 100)) <ℤ value }
     requires to { value <ℤ pos (2 ^ 100) }

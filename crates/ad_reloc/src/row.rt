@@ -76,7 +76,7 @@ const HALVES: Option<(i128, i128)> = Some((-0x8000_0800, 0x7fff_f800));
 
 /// What is said of this type, if it is taken (RISC-V ELF psABI, "Relocations").
 #[tactic(auto, unfolding(crate::specs::Table::rows, crate::specs::Table::row))]
-pub fn row_of(typ: u32) -> Option<Row>
+pub(crate) fn row_of(typ: u32) -> Option<Row>
     ensures { result ≡ row typ }
 {
     let row = match typ {

@@ -1,5 +1,6 @@
-//! Fields that spell numbers, and relocations that are refused.
+//! Fields that spell numbers, relocations that are refused, and images.
 
 mod fields;
 mod file;
+mod images;
 mod refusals;
