@@ -2,10 +2,12 @@
 #![tactic(auto)]
 
 mod finishing;
+mod laws;
 mod planning;
 mod refusal;
 #[cfg(test)]
 mod tests;
 
+pub use laws::law_one_answer;
 pub use planning::{LinkPlan, plan};
 pub use refusal::LinkRefusal;
