@@ -320,7 +320,8 @@ impl Machine {
     }
 }
 
-/// The text of an object of the one form that Adelie reads: from byte 64 on, as long as the header of section 1 says.
+/// The text of an object whose section 1 is its text, as GNU's assembler writes it: from byte 64 on, as long as that
+/// section's header says.
 fn text_of(object: &[u8]) -> Option<&[u8]> {
     let number = |at: usize| {
         let bytes = object.get(at..at + 8)?;
@@ -337,7 +338,7 @@ fn main() -> ExitCode {
         return ExitCode::FAILURE;
     };
     let object = fs::read(path).expect("the object can't be read");
-    let text = text_of(&object).expect("the object has another form");
+    let text = text_of(&object).expect("the object's text isn't its section 1, or is longer than a page");
     let argument = argument.parse().expect("ARGUMENT is a number");
     let calls = calls.parse().expect("CALLS is a number");
     let mut machine = Machine::new(text);

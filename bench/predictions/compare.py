@@ -8,6 +8,7 @@ in the environment that program is asked; else the one that ./adelie has built.
 
 import os
 import random
+import struct
 import subprocess
 import sys
 import tempfile
@@ -15,15 +16,42 @@ from collections import Counter
 from pathlib import Path
 
 TOP = Path(__file__).resolve().parents[2]
-sys.path.insert(0, str(TOP / "examples"))
-from mkobject import mkobject  # noqa: E402
 
 RA, SP, T0, T1, T2, A0, A1, A2, A3 = 1, 2, 5, 6, 7, 10, 11, 12, 13
 SCRATCH = [T0, T1, A0, A1, A2, A3]
 READ = SCRATCH + [SP, 0]
 # What a script does with its module: three calls before a move, one between two moves, two behind them.
 STEPS = ["call", "call", "call", "move", "call", "move", "call", "call"]
+# The seeds of the places at which each script is predicted and run.
+PLACES = [0, 1]
 EDGES = [0, 1, 2, 7, 8, 4095, 4096, 16384, 2**19 - 1, 2**19, 2**31, 2**34 - 1, 2**34, 2**63, 2**64 - 1]
+
+
+def section(name, kind, flags, offset, size, link, info, align, entry_size):
+    """A section header (gABI, "Sections")."""
+    return struct.pack("<IIQQQQIIQQ", name, kind, flags, 0, offset, size, link, info, align, entry_size)
+
+
+def object_of(words):
+    """An object whose text has these words, and the export `f` at its start: header, text, symbols, names, headers."""
+    text = struct.pack(f"<{len(words)}I", *words)
+    text += bytes(-len(text) % 8)
+    symbols = bytes(24) + struct.pack("<IBBHQQ", 1, 0x12, 0, 1, 0, 4 * len(words))
+    strings = b"\0f\0" + b"\0.text\0.symtab\0.strtab\0.shstrtab\0"
+    strings += bytes(-len(strings) % 8)
+    symbols_at = 64 + len(text)
+    strings_at = symbols_at + len(symbols)
+    table = [
+        bytes(64),
+        section(1, 1, 6, 64, 4 * len(words), 0, 0, 4, 0),
+        section(7, 2, 0, symbols_at, len(symbols), 3, 1, 8, 24),
+        section(15, 3, 0, strings_at, 3, 0, 0, 1, 0),
+        section(23, 3, 0, strings_at + 3, 33, 0, 0, 1, 0),
+    ]
+    end = strings_at + len(strings)
+    ident = b"\x7fELF" + bytes([2, 1, 1]) + bytes(9)
+    header = ident + struct.pack("<HHIQQQIHHHHHH", 1, 243, 1, 0, 0, end, 0, 64, 0, 0, 64, 5, 4)
+    return header + text + symbols + strings + b"".join(table)
 
 
 def register_form(opcode, f3, f7, rd, rs1, rs2):
@@ -140,9 +168,10 @@ def script(choice):
     return "\n".join(lines) + "\n"
 
 
-def answers(adelie, command, folder):
-    """What a command says of each call, by its line."""
-    done = subprocess.run([adelie, command, "s"], cwd=folder, capture_output=True, text=True, check=True)
+def answers(adelie, command, places, folder):
+    """What a command says of each call, by its line, with the places of a seed."""
+    words = [adelie, command, "s", "--seed", str(places)]
+    done = subprocess.run(words, cwd=folder, capture_output=True, text=True, check=True)
     said = {}
     for line in done.stdout.splitlines():
         head, colon, answer = line.partition(": ")
@@ -171,6 +200,17 @@ def fault(predicted, run):
     return None
 
 
+def count(seen, predicted):
+    """Counts what was predicted, by kind."""
+    for answer in predicted.values():
+        seen[kind(answer)] += 1
+        if kind(answer) == "unclear":
+            seen["reason " + answer.split()[-1]] += 1
+        if kind(answer) == "clear":
+            seen["ends by " + answer.split()[0]] += 1
+            seen["with notes"] += " notes " in answer
+
+
 def main():
     programs = int(sys.argv[1]) if len(sys.argv) > 1 else 10_000
     choice = random.Random(int(sys.argv[2]) if len(sys.argv) > 2 else 0)
@@ -181,20 +221,16 @@ def main():
     with tempfile.TemporaryDirectory() as folder:
         for number in range(programs):
             words = program(choice)
-            Path(folder, "f.o").write_bytes(mkobject(b"f", words))
+            Path(folder, "f.o").write_bytes(object_of(words))
             text = script(choice)
             Path(folder, "s").write_text(text)
-            predicted, run = answers(adelie, "predict", folder), answers(adelie, "seq", folder)
-            why = fault(predicted, run)
-            if why:
-                sys.exit(f"compare.py: program {number}: {why}\n{' '.join(f'0x{w:08x}' for w in words)}\n{text}")
-            for answer in predicted.values():
-                seen[kind(answer)] += 1
-                if kind(answer) == "unclear":
-                    seen["reason " + answer.split()[-1]] += 1
-                if kind(answer) == "clear":
-                    seen["ends by " + answer.split()[0]] += 1
-                    seen["with notes"] += " notes " in answer
+            for places in PLACES:
+                predicted, run = (answers(adelie, command, places, folder) for command in ("predict", "seq"))
+                why = fault(predicted, run)
+                if why:
+                    listing = " ".join(f"0x{w:08x}" for w in words)
+                    sys.exit(f"compare.py: program {number} at the places of seed {places}: {why}\n{listing}\n{text}")
+                count(seen, predicted)
     print(f"programs {programs}: each clear answer is the reply")
     for what, calls in sorted(seen.items()):
         print(f"{what:20} {calls:8}")

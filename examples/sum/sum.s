@@ -1,8 +1,8 @@
 # sum: gives the sum of its two arguments, modulo 2^64.
 #
 # The arguments are in a0 to a7, and the result is what a0 holds at the return. To change the example,
-# change the instructions here, and give their words to ../mkobject.py (README.md shows how). AUIPC,
-# ADDI, ADD and JALR are run today; every other word ends the call with `trap illegal`.
+# change the instructions here, and assemble it (README.md shows how). All of RV64IM is run; every other
+# word ends the call with `trap illegal`.
 
         .text
         .globl  sum

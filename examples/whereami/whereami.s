@@ -1,8 +1,8 @@
 # whereami: gives the address of its own first instruction.
 #
 # It takes no arguments, and the result is what a0 holds at the return. To change the example, change
-# the instructions here, and give their words to ../mkobject.py (README.md shows how). All of RV64IM is
-# run; every other word ends the call with `trap illegal`.
+# the instructions here, and assemble it (README.md shows how). All of RV64IM is run; every other word
+# ends the call with `trap illegal`.
 
         .text
         .globl  whereami

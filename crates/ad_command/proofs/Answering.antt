@@ -1,11 +1,13 @@
 -- What is due where the files are told: the fault, and the names that are asked for.
-use Rattle.std.proofs.Common.{◌≡◌, ◌⊎◌, ℕ, List, ◌∷◌, ◌++◌, Option, None, Some, IfSome, Result, Ok, Err, inl, inr, sym, ap, subst, ◌∙◌}
+use Rattle.std.proofs.Common.{◌≡◌, ◌≢◌, ◌⊎◌, ⊎_elim, ℕ, List, [], ◌∷◌, ◌++◌, Option, None, Some, IfSome, Result, Ok, Err, inl, inr, sym, ap, subst, ◌∙◌, append_assoc}
+use Rattle.ad_base.specs.Count.{Rose}
 use Rattle.ad_base.specs.Outside.{Outside, Output}
 use Rattle.ad_command.specs.declared.trouble.Trouble.{Trouble}
-use Rattle.ad_command.specs.declared.trouble.Trouble.TheVariants.{Memory, Read}
-use Rattle.ad_command.specs.Chain.{AreTold, Chain, Gives, Serves}
-use Rattle.ad_command.specs.Ending.{Answers, AsksFirstOf, Writes, fault_of}
+use Rattle.ad_command.specs.declared.trouble.Trouble.TheVariants.{Memory, Read, TooLarge}
+use Rattle.ad_command.specs.Chain.{AreTold, Chain, Gives, MayEnd, Serves}
+use Rattle.ad_command.specs.Ending.{Answers, AskedLast, AsksFirstOf, Writes, fault_of}
 use Rattle.ad_command.proofs.Chains.{IsDue, due}
+use Rattle.ad_command.proofs.Frank.{IsFrank, count-stays, large-asked, read-rose}
 
 asks-first : (old new : Option (List (List ℕ))) (names rest all : List (List ℕ)) → names ++ rest ≡ all → IfSome old (λ before. new ≡ Some (before ++ names)) → AsksFirstOf old new all
 asks-first None new names rest all first asked = tt
@@ -36,6 +38,16 @@ module _ {A : Type 0} (old new : Outside) (c : Chain A) (r : Result A Trouble) (
   is-due : IsDue serves.names names r d
   is-due = due old.told bytes old.faults new.faults c serves.names names r d serves.ends gives are
 
+  -- what was done is what is due
+  pub is-due-work : (j w : A) → r ≡ Ok j → d ≡ Ok w → j ≡ w
+  is-due-work j w done due = ⊎_elim (λ e. let both : Ok j ≡ Ok w = sym done ∙ e ∙ due in cc)
+      (⊎_elim (λ e. absurd cc) (λ e. absurd (let f = e.4 in cc))) is-due.end
+
+  -- where work is due and none was done, there was no memory or a file wasn't read
+  pub not-done : (t : Trouble) (w : A) → r ≡ Err t → d ≡ Ok w → (t ≡ Memory) ⊎ ((name : List ℕ) × (t ≡ Read name))
+  not-done t w refused due = ⊎_elim (λ e. absurd cc)
+      (⊎_elim (λ e. inl (let both : Err t ≡ Err Memory = sym refused ∙ e in cc)) (λ e. inr (e.2, let both : Err t ≡ Err (Read e.2) = sym refused ∙ e.4 in cc))) is-due.end
+
   pub asks : AsksFirstOf old.asked new.asked names
   asks = asks-first old.asked new.asked serves.names is-due.rest names is-due.first serves.asked
 
@@ -44,3 +56,25 @@ module _ {A : Type 0} (old new : Outside) (c : Chain A) (r : Result A Trouble) (
 
   pub answers-written : (j : A) (before after : Output) (fault : Option Trouble) (text : List ℕ) → r ≡ Ok j → Writes before after fault text → Answers fault (fault_of d) names
   answers-written j before after fault text done written = fault-written d names before after fault text (done-due r d j names done is-due.end) written
+
+-- what the faults of files say, whatever is told
+last-asked : (old new : Option (List (List ℕ))) (names more : List (List ℕ)) (name : List ℕ) → names ≡ more ++ name ∷ [] → IfSome old (λ before. new ≡ Some (before ++ names)) → AskedLast old new name
+last-asked None new names more name split asked = tt
+last-asked (Some before) new names more name split asked = (more, asked ∙ ap (λ ns. Some (before ++ ns)) split ∙ ap Some (sym (append_assoc before more (name ∷ []))))
+
+module _ {A : Type 0} (old new : Outside) (c : Chain A) (r : Result A Trouble) (serves : Serves old new c r) (frank : IsFrank None c) where
+  ends-with : (t : Trouble) → r ≡ Err t → MayEnd old.told old.faults new.faults c serves.names (Err t)
+  ends-with t same = subst (MayEnd old.told old.faults new.faults c serves.names) same serves.ends
+
+  pub unread : (name : List ℕ) → r ≡ Err (Read name) → Rose old.faults new.faults × AskedLast old.asked new.asked name
+  unread name same =
+      let h = read-rose old.told old.faults new.faults None c serves.names name frank (ends-with (Read name) same) in
+      (h.0, last-asked old.asked new.asked serves.names h.1.0 name h.1.1 serves.asked)
+
+  pub too-large : (name : List ℕ) → r ≡ Err (TooLarge name) → AskedLast old.asked new.asked name
+  too-large name same =
+      let h = large-asked old.told old.faults new.faults c serves.names name frank (ends-with (TooLarge name) same) in
+      last-asked old.asked new.asked serves.names h.0 name h.1 serves.asked
+
+  pub stays : ((name : List ℕ) → r ≢ Err (Read name)) → new.faults ≡ old.faults
+  stays other = count-stays old.told old.faults new.faults c serves.names r other serves.ends

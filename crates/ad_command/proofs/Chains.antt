@@ -1,11 +1,19 @@
 -- Serving chains: a step behind another, want of memory anywhere, and one answer where the files are told.
 use Rattle.std.proofs.Common.{◌≡◌, ◌⊎◌, ℕ, List, [], ◌∷◌, ◌++◌, Option, None, Some, IfSome, Result, Ok, Err, inl, inr, ⊎_elim, refl, sym, ap, subst, ◌∙◌, append_assoc, append-nil}
 use Rattle.ad_base.specs.Outside.{Outside, Told}
-use Rattle.ad_form.proofs.OneModule.{one_module}
+use Rattle.ad_link.specs.Plan.{IsRefusedAt, Planned}
+use Rattle.ad_link.specs.declared.refusal.LinkRefusal.{LinkRefusal}
+use Rattle.ad_link.specs.declared.refusal.LinkRefusal.TheVariants as refusal
+use Rattle.ad_link.proofs.OneAnswer.{not_both, one_plan, one_refusal}
+use Rattle.ad_base.specs.declared.image.Image.{Image}
+use Rattle.ad_base.specs.declared.place.Place.{Place}
+use Rattle.ad_reloc.specs.Image.{IsImage}
+use Rattle.ad_reloc.proofs.OneImage.{one_image}
+use Rattle.ad_reloc.proofs.OneImage as image
 use Rattle.ad_script.proofs.OneScript.{one_script}
 use Rattle.ad_command.specs.declared.trouble.Trouble.{Trouble}
 use Rattle.ad_command.specs.declared.trouble.Trouble.TheVariants.{Memory, Read}
-use Rattle.ad_command.specs.Chain.{AreTold, Ask, Chain, Done, Gives, IsVerdict, Judge, MayEnd, ModuleFile, Question, Refuse, ScriptText, Serves, Verdict, ◌>>=◌}
+use Rattle.ad_command.specs.Chain.{AreTold, Ask, Chain, Done, Gives, ImageAt, IsVerdict, Judge, MayEnd, ModuleFile, Question, Refuse, ScriptText, Serves, Verdict, ◌>>=◌}
 
 -- memory may be wanting at any step
 pub memory : {A : Type 0} (told : Told) (n : ℕ) (c : Chain A) → MayEnd told n n c [] (Err Memory)
@@ -93,16 +101,39 @@ serves-memory o c = record { names = []; ends = memory o.told o.faults c; asked 
 pub serves-judge : {A : Type 0} (old new : Outside) (q : Question) (next : Verdict q → Chain A) (v : Verdict q) (r : Result A Trouble) → IsVerdict q v → Serves old new (next v) r → Serves old new (Judge q next) r
 serves-judge old new q next v r is s = record { names = s.names; ends = inr (v, is, s.ends); asked = s.asked; same = s.same }
 
+-- a plan is refused in one way at a place, and not where it has an image there
+refused-once : (p : Planned) (fixed : Place) (r s : LinkRefusal) → IsRefusedAt fixed p r → IsRefusedAt fixed p s → r ≡ s
+refused-once p fixed (refusal.Object a) s h k = absurd h
+refused-once p fixed (refusal.Parts a) s h k = absurd h
+refused-once p fixed (refusal.Tables a) s h k = absurd h
+refused-once p fixed (refusal.Reloc a) (refusal.Object b) h k = absurd k
+refused-once p fixed (refusal.Reloc a) (refusal.Parts b) h k = absurd k
+refused-once p fixed (refusal.Reloc a) (refusal.Tables b) h k = absurd k
+refused-once p fixed (refusal.Reloc a) (refusal.Reloc b) h k = ap refusal.Reloc (image.one_refusal p.object p.layout p.tables fixed a b h k)
+refused-once p fixed (refusal.Reloc a) refusal.OutOfMemory h k = absurd k
+refused-once p fixed refusal.OutOfMemory s h k = absurd h
+
+image-or-refused : (p : Planned) (fixed : Place) (i : Image) (r : LinkRefusal) → IsImage p.object p.layout p.tables fixed i → IsRefusedAt fixed p r → ⊥
+image-or-refused p fixed i (refusal.Object a) h k = k
+image-or-refused p fixed i (refusal.Parts a) h k = k
+image-or-refused p fixed i (refusal.Tables a) h k = k
+image-or-refused p fixed i (refusal.Reloc a) h k = image.not_both p.object p.layout p.tables fixed i a h k
+image-or-refused p fixed i refusal.OutOfMemory h k = k
+
 -- a question has one verdict
 pub one_verdict : (q : Question) (v w : Verdict q) → IsVerdict q v → IsVerdict q w → v ≡ w
 one_verdict (ScriptText bytes) (Ok s) (Ok t) h k = ap Ok (one_script bytes s t h k)
 one_verdict (ScriptText bytes) (Ok s) (Err wrong) h k = absurd (k s h)
 one_verdict (ScriptText bytes) (Err wrong) (Ok t) h k = absurd (h t k)
 one_verdict (ScriptText bytes) (Err wrong) (Err other) h k = refl
-one_verdict (ModuleFile bytes) (Ok m) (Ok n) h k = ap Ok (one_module bytes m n h k)
-one_verdict (ModuleFile bytes) (Ok m) (Err wrong) h k = absurd (k m h)
-one_verdict (ModuleFile bytes) (Err wrong) (Ok n) h k = absurd (h n k)
-one_verdict (ModuleFile bytes) (Err wrong) (Err other) h k = refl
+one_verdict (ModuleFile bytes) (Ok p) (Ok q) h k = ap Ok (one_plan bytes p q h k)
+one_verdict (ModuleFile bytes) (Ok p) (Err r) h k = absurd (not_both bytes p r h k)
+one_verdict (ModuleFile bytes) (Err r) (Ok p) h k = absurd (not_both bytes p r k h)
+one_verdict (ModuleFile bytes) (Err r) (Err s) h k = ap Err (one_refusal bytes r s h k)
+one_verdict (ImageAt p fixed) (Ok i) (Ok j) h k = ap Ok (one_image p.object p.layout p.tables fixed i j h k)
+one_verdict (ImageAt p fixed) (Ok i) (Err r) h k = absurd (image-or-refused p fixed i r h k)
+one_verdict (ImageAt p fixed) (Err r) (Ok i) h k = absurd (image-or-refused p fixed i r k h)
+one_verdict (ImageAt p fixed) (Err r) (Err s) h k = ap Err (refused-once p fixed r s h k)
 
 -- what a chain may come to where its files are told: its answer, but for want of memory and a failed read, by the names
 -- that it asks for or the first of them

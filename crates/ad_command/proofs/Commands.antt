@@ -8,10 +8,10 @@ use Rattle.ad_script.specs.declared.script.Script.{Script}
 use Rattle.ad_command.specs.declared.trouble.Trouble.{Trouble}
 use Rattle.ad_command.specs.declared.trouble.Trouble.TheVariants.{Memory, NoExport, Usage}
 use Rattle.ad_command.specs.Chain.{Chain, Done, Serves, ◌>>=◌, given, judged}
-use Rattle.ad_command.specs.Command.{Job, Work, command, job_in, job_of, work_of}
+use Rattle.ad_command.specs.Command.{Job, Shown, Work, command, job_in, job_of, shown_in, work_of}
 use Rattle.ad_command.specs.Ending.{Ending, IsDone}
 use Rattle.ad_command.specs.Loading.{loaded_images, module_of, script_of}
-use Rattle.ad_command.specs.Words.{Command, command_of}
+use Rattle.ad_words.specs.Words.{Command, Show, command_of}
 use Rattle.ad_command.proofs.Chains.{serves-behind, serves-done, serves-memory, serves-refuse, serves-refused}
 
 module _ (operand : List ℕ) (seed fuel : ℕ) where
@@ -93,3 +93,20 @@ work-ran work_on outcome old new operand seed fuel (Ok p) end serves is =
 work-ran work_on outcome old new operand seed fuel (Err t) end serves is =
     let at : Serves old new (job_in operand seed fuel) (Err t) = subst (Serves old new (job_in operand seed fuel)) is serves in
     (Err t, serves-refused old new (job_in operand seed fuel) (λ j. Done (work_on j)) t at, refl)
+
+-- the image of a module was shown, or isn't
+module _ (old new : Outside) (file : List ℕ) where
+  shows : Image → Chain Work
+  shows i = Done (Shown i)
+
+  pub show-unlinked : (t : Trouble) → Serves old new (shown_in file) (Err t) → Serves old new (work_of (Show file)) (Err t)
+  unfolding shows
+  show-unlinked t first = serves-refused old new (shown_in file) shows t first
+
+  pub show-done : (i : Image) → Serves old new (shown_in file) (Ok i) → Serves old new (work_of (Show file)) (Ok (Shown i))
+  unfolding shows
+  show-done i first = serves-behind old new new (shown_in file) shows i (Ok (Shown i)) first (serves-done new (Shown i))
+
+  pub show-wanting : (i : Image) → Serves old new (shown_in file) (Ok i) → Serves old new (work_of (Show file)) (Err Memory)
+  unfolding shows
+  show-wanting i first = serves-behind old new new (shown_in file) shows i (Err Memory) first (serves-memory new (Done (Shown i)))

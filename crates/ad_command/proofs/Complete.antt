@@ -1,30 +1,31 @@
 -- A command whose words, files and exports are right is done.
-use Rattle.std.proofs.Common.{◌≡◌, ℕ, ◌≤◌, Bool, false, List, [], ◌∷◌, ◌++◌, length, map, Ok, refl, sym, subst}
-use Rattle.std.specs.Prelude.{codes, nat_lt, if◌then◌else◌, Some, None}
-use Rattle.std.specs.List.{AllZip}
+use Rattle.std.proofs.Common.{◌≡◌, ℕ, ◌≤◌, List, [], ◌∷◌, ◌++◌, length, map, Ok, refl, sym, ap, subst}
+use Rattle.std.specs.Prelude.{Result, nat_lt, if◌then◌else◌, Some, None}
 use Rattle.std.proofs.lemmas.Bool.{le-ltb}
 use Rattle.ad_base.specs.declared.image.Image.{Image}
 use Rattle.ad_base.specs.declared.layout.TheConstants.{FILE_BYTES}
-use Rattle.ad_form.specs.declared.read.Module.{Module}
-use Rattle.ad_form.specs.Object.{IsModule}
+use Rattle.ad_base.specs.declared.place.Place.{Place}
+use Rattle.ad_link.specs.Plan.{IsPlan, Planned, fixed_pages}
+use Rattle.ad_reloc.specs.Image.{IsImage}
 use Rattle.ad_lines.specs.declared.ready.ReadyStep.{ReadyStep}
 use Rattle.ad_lines.specs.Ready.{ready_steps}
 use Rattle.ad_script.specs.declared.script.Load.{Load}
 use Rattle.ad_script.specs.declared.script.Script.{Script}
 use Rattle.ad_script.specs.Script.{IsScript}
-use Rattle.ad_command.specs.declared.trouble.Trouble.TheVariants.{BadScript, Form, NoExport, TooLarge, Usage}
-use Rattle.ad_command.specs.declared.words.TheConstants.{FUEL, SEED}
-use Rattle.ad_command.specs.Chain.{Chain, Done, Gives, Judge, ModuleFile, Refuse, ScriptText, ◌>>=◌, each_in_turn, given, judged}
-use Rattle.ad_command.specs.Command.{Job, Lines, Predicted, Work, command, job_in, job_of, work_of}
-use Rattle.ad_command.specs.Loading.{file_of, image_behind, images_behind, loaded_image, loaded_images, module_of, script_of}
-use Rattle.ad_command.specs.Words.{Command, Predict, Seq, is_option}
+use Rattle.ad_command.specs.declared.trouble.Trouble.{Trouble}
+use Rattle.ad_command.specs.declared.trouble.Trouble.TheVariants.{BadScript, NoExport, TooLarge, Usage}
+use Rattle.ad_command.specs.Chain.{Chain, Done, Gives, ImageAt, Judge, ModuleFile, Refuse, ScriptText, ◌>>=◌, each_in_turn, given, judged}
+use Rattle.ad_command.specs.Command.{Job, Lines, Predicted, Shown, Work, command, job_in, job_of, shown_at, shown_in, work_of}
+use Rattle.ad_command.specs.Loading.{AreLinked, IsLinked, file_of, fixed_behind, image_at, loaded_image, loaded_images, module_of, script_of}
+use Rattle.ad_command.specs.Trouble.{refused_module}
+use Rattle.ad_words.specs.Words.{Command, Predict, Seq, Show, command_of}
 use Rattle.ad_command.proofs.Chains.{gives-behind, gives-last}
 
 module _ (files : List ℕ → List ℕ) where
   file-by : (n : ℕ) (name : List ℕ) → length (files name) ≤ n → Gives files (if nat_lt n (length (files name)) then Refuse (TooLarge name) else Done (files name)) [] (Ok (files name))
   file-by n name short = rw (le-ltb n (length (files name)) short) (refl, refl)
 
-  file-gives : (name : List ℕ) → length (files name) ≤ FILE_BYTES → Gives files (file_of name) (name ∷ []) (Ok (files name))
+  pub file-gives : (name : List ℕ) → length (files name) ≤ FILE_BYTES → Gives files (file_of name) (name ∷ []) (Ok (files name))
   unfolding file_of
   file-gives name short = ([], refl, file-by FILE_BYTES name short)
 
@@ -32,30 +33,36 @@ module _ (files : List ℕ → List ℕ) where
   unfolding script_of
   script-gives name s short is = gives-behind files (file_of name) (λ text. Judge (ScriptText text) (judged (λ wrong. BadScript))) (name ∷ []) [] (files name) (Ok s) (file-gives name short) (Ok s, is, (refl, refl))
 
-  module-gives : (name : List ℕ) (m : Module) → length (files name) ≤ FILE_BYTES → IsModule (files name) m → Gives files (module_of name) (name ∷ []) (Ok m)
+  pub module-gives : (name : List ℕ) (p : Planned) → length (files name) ≤ FILE_BYTES → IsPlan (files name) p → Gives files (module_of name) (name ∷ []) (Ok p)
   unfolding module_of
-  module-gives name m short is = gives-behind files (file_of name) (λ file. Judge (ModuleFile file) (judged (λ wrong. Form name))) (name ∷ []) [] (files name) (Ok m) (file-gives name short) (Ok m, is, (refl, refl))
+  module-gives name p short is = gives-behind files (file_of name) (λ file. Judge (ModuleFile file) (judged (refused_module name))) (name ∷ []) [] (files name) (Ok p) (file-gives name short) (Ok p, is, (refl, refl))
 
-  -- a load whose file isn't too long and is a module
-  abbrev pub IsRight : Load → Module → Type 0
-  IsRight l m = (length (files l.file) ≤ FILE_BYTES) × IsModule (files l.file) m
+  image-there : (name : List ℕ) (p : Planned) (fixed : Place) (i : Image) → IsImage p.object p.layout p.tables fixed i → Gives files (image_at name p fixed) [] (Ok i)
+  unfolding image_at
+  image-there name p fixed i is = (Ok i, is, (refl, refl))
+
+  show-gives : (name : List ℕ) (p : Planned) (i : Image) → length (files name) ≤ FILE_BYTES → IsPlan (files name) p → IsImage p.object p.layout p.tables (shown_at (fixed_pages p.layout.sizes)) i
+      → Gives files (shown_in name) (name ∷ []) (Ok i)
+  unfolding shown_in
+  show-gives name p i short plan is =
+      gives-behind files (module_of name) (λ q. image_at name q (shown_at (fixed_pages q.layout.sizes))) (name ∷ []) [] p (Ok i) (module-gives name p short plan)
+      (image-there name p (shown_at (fixed_pages p.layout.sizes)) i is)
 
   module _ (seed workers : ℕ) where
-    image-gives : (before : List Image) (l : Load) (m : Module) → IsRight l m → Gives files (loaded_image module_of seed workers before l) (l.file ∷ []) (Ok (image_behind seed workers before m))
+    pub image-gives : (before : List Image) (l : Load) (i : Image) → IsLinked files seed workers before l i → Gives files (loaded_image module_of seed workers before l) (l.file ∷ []) (Ok i)
     unfolding loaded_image
-    image-gives before l m right = gives-behind files (module_of l.file) (λ x. Done (image_behind seed workers before x)) (l.file ∷ []) [] m (Ok (image_behind seed workers before m)) (module-gives l.file m right.0 right.1) (refl, refl)
+    image-gives before l i right =
+        gives-behind files (module_of l.file) (λ p. image_at l.file p (fixed_behind seed workers before p)) (l.file ∷ []) [] right.planned (Ok i) (module-gives l.file right.planned right.short right.plan)
+        (image-there l.file right.planned (fixed_behind seed workers before right.planned) i right.image)
 
-    images-gives : (before : List Image) (loads : List Load) (ms : List Module) → AllZip IsRight loads ms
-        → Gives files (each_in_turn (loaded_image module_of seed workers) before loads) (map (λ (l : Load). l.file) loads) (Ok (images_behind seed workers before ms))
+    images-gives : (before : List Image) (loads : List Load) (images : List Image) → AreLinked files seed workers before loads images
+        → Gives files (each_in_turn (loaded_image module_of seed workers) before loads) (map (λ (l : Load). l.file) loads) (Ok images)
     unfolding each_in_turn
-    images-gives before [] [] right = (refl, refl)
-    images-gives before [] (m ∷ ms) right = absurd right
-    images-gives before (l ∷ ls) [] right = absurd right
-    images-gives before (l ∷ ls) (m ∷ ms) right =
+    images-gives before [] images right = (refl, ap Ok right)
+    images-gives before (l ∷ ls) images right =
         let f = loaded_image module_of seed workers in
-        let i = image_behind seed workers before m in
-        gives-behind files (f before l) (λ y. each_in_turn f (before ++ y ∷ []) ls) (l.file ∷ []) (map (λ (x : Load). x.file) ls) i (Ok (images_behind seed workers (before ++ i ∷ []) ms))
-        (image-gives before l m right.0) (images-gives (before ++ i ∷ []) ls ms right.1)
+        gives-behind files (f before l) (λ y. each_in_turn f (before ++ y ∷ []) ls) (l.file ∷ []) (map (λ (x : Load). x.file) ls) right.0 (Ok images)
+        (image-gives before l right.0 right.1) (images-gives (before ++ right.0 ∷ []) ls images right.2)
 
   module _ (operand : List ℕ) (seed fuel : ℕ) (s : Script) (images : List Image) (steps : List ReadyStep) (more : List (List ℕ)) where
     abbrev done : Job
@@ -75,33 +82,38 @@ module _ (files : List ℕ → List ℕ) where
     in-gives script job = gives-behind files (script_of operand) (λ x. job_of module_of x seed fuel) (operand ∷ []) more s (Ok done) script job
 
 -- words that are a command
-by-words : (files : List ℕ → List ℕ) (operand : List ℕ) (names : List (List ℕ)) (j : Job) (c : Command) (work_on : Job → Work) (b : Bool)
-    → work_of c ≡ (job_in operand SEED FUEL >>= λ k. Done (work_on k)) → b ≡ false → Gives files (job_in operand SEED FUEL) names (Ok j)
-    → Gives files (given Usage (if b then None else Some c) >>= work_of) names (Ok (work_on j))
-by-words files operand names j c work_on b is plain gives =
-    subst (λ x. Gives files (given Usage (if x then None else Some c) >>= work_of) names (Ok (work_on j))) (sym plain)
-    (subst (λ w. Gives files w names (Ok (work_on j))) (sym is) (gives-last files (job_in operand SEED FUEL) (λ k. Done (work_on k)) names j (Ok (work_on j)) gives (refl, refl)))
+by-words : (files : List ℕ → List ℕ) (words : List (List ℕ)) (c : Command) (names : List (List ℕ)) (r : Result Work Trouble) → command_of words ≡ Some c → Gives files (work_of c) names r → Gives files (command words) names r
+unfolding command
+by-words files words c names r is gives = subst (λ x. Gives files (given Usage x >>= work_of) names r) (sym is) gives
 
-module _ (files : List ℕ → List ℕ) (operand : List ℕ) (s : Script) (ms : List Module) (steps : List ReadyStep)
-    (plain : is_option operand ≡ false) (short : length (files operand) ≤ FILE_BYTES) (script : IsScript (files operand) s) (right : AllZip (IsRight files) s.loads ms)
-    (ready : ready_steps (images_behind SEED s.workers [] ms) s.steps ≡ Ok steps) where
+module _ (files : List ℕ → List ℕ) (words : List (List ℕ)) (operand : List ℕ) (seed fuel : ℕ) (s : Script) (images : List Image) (steps : List ReadyStep)
+    (short : length (files operand) ≤ FILE_BYTES) (script : IsScript (files operand) s)
+    (right : AreLinked files seed s.workers [] s.loads images) (ready : ready_steps images s.steps ≡ Ok steps) where
   abbrev names : List (List ℕ)
   names = map (λ (l : Load). l.file) s.loads
 
   abbrev right_job : Job
-  right_job = record { seed = SEED; fuel = FUEL; script = s; images = images_behind SEED s.workers [] ms; steps = steps }
+  right_job = record { seed = seed; fuel = fuel; script = s; images = images; steps = steps }
 
-  right-job-gives : Gives files (job_in operand SEED FUEL) (operand ∷ names) (Ok right_job)
+  right-job-gives : Gives files (job_in operand seed fuel) (operand ∷ names) (Ok right_job)
   unfolding loaded_images
   right-job-gives =
-      let images = images_behind SEED s.workers [] ms in
-      let loaded : Gives files (loaded_images module_of SEED s) names (Ok images) = images-gives files SEED s.workers [] s.loads ms right in
-      in-gives files operand SEED FUEL s images steps names (script-gives files operand s short script) (job-gives files operand SEED FUEL s images steps names loaded ready)
+      let loaded : Gives files (loaded_images module_of seed s) names (Ok images) = images-gives files seed s.workers [] s.loads images right in
+      in-gives files operand seed fuel s images steps names (script-gives files operand s short script) (job-gives files operand seed fuel s images steps names loaded ready)
 
-  pub right-seq-is-done : Gives files (command (codes "seq" ∷ operand ∷ [])) (operand ∷ names) (Ok (Lines right_job))
-  unfolding command
-  right-seq-is-done = by-words files operand (operand ∷ names) right_job (Seq operand SEED FUEL) Lines (is_option operand) refl plain right-job-gives
+  -- the work on the job of these words
+  right-work-gives : (work_on : Job → Work) → Gives files (job_in operand seed fuel >>= λ j. Done (work_on j)) (operand ∷ names) (Ok (work_on right_job))
+  right-work-gives work_on = gives-last files (job_in operand seed fuel) (λ j. Done (work_on j)) (operand ∷ names) right_job (Ok (work_on right_job)) right-job-gives (refl, refl)
 
-  pub right-predict-is-done : Gives files (command (codes "predict" ∷ operand ∷ [])) (operand ∷ names) (Ok (Predicted right_job))
-  unfolding command
-  right-predict-is-done = by-words files operand (operand ∷ names) right_job (Predict operand SEED FUEL) Predicted (is_option operand) refl plain right-job-gives
+  pub right-seq-is-done : command_of words ≡ Some (Seq operand seed fuel) → Gives files (command words) (operand ∷ names) (Ok (Lines right_job))
+  right-seq-is-done is = by-words files words (Seq operand seed fuel) (operand ∷ names) (Ok (Lines right_job)) is (right-work-gives Lines)
+
+  pub right-predict-is-done : command_of words ≡ Some (Predict operand seed fuel) → Gives files (command words) (operand ∷ names) (Ok (Predicted right_job))
+  right-predict-is-done is = by-words files words (Predict operand seed fuel) (operand ∷ names) (Ok (Predicted right_job)) is (right-work-gives Predicted)
+
+pub right-show-is-done : (files : List ℕ → List ℕ) (words : List (List ℕ)) (operand : List ℕ) (p : Planned) (i : Image) → length (files operand) ≤ FILE_BYTES
+    → IsPlan (files operand) p → IsImage p.object p.layout p.tables (shown_at (fixed_pages p.layout.sizes)) i
+    → command_of words ≡ Some (Show operand) → Gives files (command words) (operand ∷ []) (Ok (Shown i))
+right-show-is-done files words operand p i short plan is said =
+    by-words files words (Show operand) (operand ∷ []) (Ok (Shown i)) said
+    (gives-last files (shown_in operand) (λ x. Done (Shown x)) (operand ∷ []) i (Ok (Shown i)) (show-gives files operand p i short plan is) (refl, refl))

@@ -1,42 +1,65 @@
--- Where the first module of a script has another form, the chain of its loads ends there.
-use Rattle.std.proofs.Common.{◌≡◌, ℕ, ◌≤◌, List, [], ◌∷◌, length, Result, Err, ap, subst, ◌∙◌}
-use Rattle.std.specs.Prelude.{nat_lt, if◌then◌else◌}
-use Rattle.std.proofs.lemmas.Bool.{le-ltb}
+-- The first load that is refused ends the chain of a script's loads.
+use Rattle.std.proofs.Common.{◌≡◌, ◌⊎◌, ℕ, List, [], ◌∷◌, ◌++◌, map, Result, Err, inl, inr, refl, sym, ap, subst}
 use Rattle.ad_base.specs.declared.image.Image.{Image}
-use Rattle.ad_base.specs.declared.layout.TheConstants.{FILE_BYTES}
-use Rattle.ad_form.specs.declared.read.Module.{Module}
+use Rattle.ad_base.specs.declared.place.Place.{Place}
+use Rattle.ad_link.specs.declared.refusal.LinkRefusal.{LinkRefusal}
+use Rattle.ad_link.specs.Plan.{IsPlan, IsRefused, IsRefusedAt, Planned}
 use Rattle.ad_script.specs.declared.script.Load.{Load}
 use Rattle.ad_script.specs.declared.script.Script.{Script}
 use Rattle.ad_command.specs.declared.trouble.Trouble.{Trouble}
-use Rattle.ad_command.specs.declared.trouble.Trouble.TheVariants.{Form, TooLarge}
-use Rattle.ad_command.specs.Chain.{Chain, Done, Gives, IsWrong, Judge, ModuleFile, Refuse, Verdict, ◌>>=◌, each_in_turn, judged}
-use Rattle.ad_command.specs.Loading.{file_of, image_behind, loaded_image, loaded_images, module_of}
-use Rattle.ad_command.proofs.Chains.{one_verdict}
+use Rattle.ad_command.specs.Chain.{Ask, Chain, Done, Gives, Judge, ModuleFile, Refuse, ◌>>=◌, each_in_turn, judged}
+use Rattle.ad_command.specs.Loading.{AreLinked, IsRefusedLoad, file_of, fixed_behind, image_at, loaded_image, loaded_images, module_of}
+use Rattle.ad_command.specs.Trouble.{refused_module}
+use Rattle.ad_command.proofs.Chains.{gives-behind}
+use Rattle.ad_command.proofs.Complete.{file-gives, image-gives, module-gives}
 
-module _ {A B : Type 0} (files : List ℕ → List ℕ) (name : List ℕ) (made : Module → Chain A) (next : A → Chain B) where
-  -- what is done with the bytes of a file
-  abbrev parsed : List ℕ → Chain Module
-  parsed file = Judge (ModuleFile file) (judged (λ wrong. Form name))
+module _ (files : List ℕ → List ℕ) where
+  -- what is behind a refusal isn't come to
+  gives-refused : {A B : Type 0} (c : Chain A) (f : A → Chain B) (names : List (List ℕ)) (t : Trouble) → Gives files c names (Err t) → Gives files (c >>= f) names (Err t)
+  gives-refused (Done a) f names t gives = absurd (let e = gives.1 in cc)
+  gives-refused (Refuse u) f names t gives = let same : t ≡ u = (let e = gives.1 in cc) in (gives.0, ap Err same)
+  gives-refused (Ask name next) f names t gives = (gives.0, gives.1, gives-refused (next (files name)) f gives.0 t gives.2)
+  gives-refused (Judge q next) f names t gives = (gives.0, gives.1, gives-refused (next gives.0) f names t gives.2)
 
-  -- bytes that aren't too many and are no module: that is the end
-  pub ends-formless : (n : ℕ) (file : List ℕ) (names : List (List ℕ)) (due : Result B Trouble) → length file ≤ n → IsWrong (ModuleFile file) tt
-      → Gives files ((((if nat_lt n (length file) then Refuse (TooLarge name) else Done file) >>= parsed) >>= made) >>= next) names due
-      → (names ≡ []) × (due ≡ Err (Form name))
-  ends-formless n file names due short formless gives =
-      let goes : Gives files ((parsed file >>= made) >>= next) names due =
-      subst (λ b. Gives files ((((if b then Refuse (TooLarge name) else Done file) >>= parsed) >>= made) >>= next) names due) (le-ltb n (length file) short) gives in
-      let none : goes.0 ≡ Err tt = one_verdict (ModuleFile file) goes.0 (Err tt) goes.1 formless in
-      subst (λ (v : Verdict (ModuleFile file)). Gives files ((judged (λ wrong. Form name) v >>= made) >>= next) names due) none goes.2
+  module _ (seed workers : ℕ) (l : Load) (r : LinkRefusal) where
+    abbrev fault : Trouble
+    fault = refused_module l.file r
 
--- the chain of a script's loads asks for the first file, and ends there
-pub first-refusal : (files : List ℕ → List ℕ) (seed : ℕ) (s : Script) (first : Load) (more : List Load) (names : List (List ℕ)) (due : Result (List Image) Trouble)
-    → s.loads ≡ first ∷ more → length (files first.file) ≤ FILE_BYTES → IsWrong (ModuleFile (files first.file)) tt
-    → Gives files (loaded_images module_of seed s) names due → (due ≡ Err (Form first.file)) × (names ≡ first.file ∷ [])
-unfolding loaded_images each_in_turn loaded_image module_of file_of
-first-refusal files seed s first more names due loads short formless gives =
-    let made : Module → Chain Image = λ m. Done (image_behind seed s.workers [] m) in
-    let next : Image → Chain (List Image) = λ i. each_in_turn (loaded_image module_of seed s.workers) (i ∷ []) more in
-    let goes : Gives files (each_in_turn (loaded_image module_of seed s.workers) [] (first ∷ more)) names due =
-    subst (λ ls. Gives files (each_in_turn (loaded_image module_of seed s.workers) [] ls) names due) loads gives in
-    let end = ends-formless files first.file made next FILE_BYTES (files first.file) goes.0 due short formless goes.2 in
-    (end.1, goes.1 ∙ ap (λ ns. first.file ∷ ns) end.0)
+    no-plan : (before : List Image) → IsRefusedLoad files seed workers before l r → IsRefused (files l.file) r → Gives files (loaded_image module_of seed workers before l) (l.file ∷ []) (Err fault)
+    unfolding loaded_image module_of
+    no-plan before is refused =
+        let module' : Chain Planned = file_of l.file >>= λ file. Judge (ModuleFile file) (judged (refused_module l.file)) in
+        gives-refused module' (λ p. image_at l.file p (fixed_behind seed workers before p)) (l.file ∷ []) fault
+        (gives-behind files (file_of l.file) (λ file. Judge (ModuleFile file) (judged (refused_module l.file))) (l.file ∷ []) [] (files l.file) (Err fault) (file-gives files l.file is.short) (Err r, refused, (refl, refl)))
+
+    no-image : (before : List Image) (p : Planned) → IsRefusedLoad files seed workers before l r → IsPlan (files l.file) p → IsRefusedAt (fixed_behind seed workers before p) p r
+        → Gives files (loaded_image module_of seed workers before l) (l.file ∷ []) (Err fault)
+    unfolding loaded_image image_at
+    no-image before p is plan refused =
+        gives-behind files (module_of l.file) (λ q. image_at l.file q (fixed_behind seed workers before q)) (l.file ∷ []) [] p (Err fault) (module-gives files l.file p is.short plan) (Err r, refused, (refl, refl))
+
+    load-refused : (before : List Image) → IsRefusedLoad files seed workers before l r → Gives files (loaded_image module_of seed workers before l) (l.file ∷ []) (Err fault)
+    load-refused before is = elim is.refused [
+      | inl refused ↦ no-plan before is refused
+      | inr refused ↦ no-image before refused.0 is refused.1 refused.2
+    ]
+
+    loads-refused : (before images : List Image) (linked more : List Load) → AreLinked files seed workers before linked images → IsRefusedLoad files seed workers images l r
+        → Gives files (each_in_turn (loaded_image module_of seed workers) before (linked ++ l ∷ more)) (map (λ (x : Load). x.file) linked ++ l.file ∷ []) (Err fault)
+    unfolding each_in_turn
+    loads-refused before images [] more right is =
+        let f = loaded_image module_of seed workers in
+        gives-refused (f before l) (λ y. each_in_turn f (before ++ y ∷ []) more) (l.file ∷ []) fault (load-refused before (subst (λ is. IsRefusedLoad files seed workers is l r) right is))
+    loads-refused before images (x ∷ xs) more right is =
+        let f = loaded_image module_of seed workers in
+        gives-behind files (f before x) (λ y. each_in_turn f (before ++ y ∷ []) (xs ++ l ∷ more)) (x.file ∷ []) (map (λ (y : Load). y.file) xs ++ l.file ∷ []) right.0 (Err fault)
+        (image-gives files seed workers before x right.0 right.1) (loads-refused (before ++ right.0 ∷ []) images xs more right.2 is)
+
+-- the chain of a script's loads ends at the first that is refused
+pub first-refusal : (files : List ℕ → List ℕ) (seed : ℕ) (s : Script) (linked : List Load) (l : Load) (more : List Load) (images : List Image) (r : LinkRefusal)
+    → s.loads ≡ linked ++ l ∷ more → AreLinked files seed s.workers [] linked images → IsRefusedLoad files seed s.workers images l r
+    → Gives files (loaded_images module_of seed s) (map (λ (x : Load). x.file) linked ++ l.file ∷ []) (Err (refused_module l.file r))
+unfolding loaded_images
+first-refusal files seed s linked l more images r loads right is =
+    subst (λ ls. Gives files (each_in_turn (loaded_image module_of seed s.workers) [] ls) (map (λ (x : Load). x.file) linked ++ l.file ∷ []) (Err (refused_module l.file r))) (sym loads)
+    (loads-refused files seed s.workers l r [] images linked more right is)

@@ -4,6 +4,7 @@ pub mod Commands
 pub mod Complete
 pub mod Done
 pub mod FirstRefusal
+pub mod Frank
 pub mod Jobs
 pub mod Loads
 pub mod Worked

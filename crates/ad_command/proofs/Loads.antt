@@ -15,23 +15,26 @@ use Rattle.ad_base.specs.declared.layout.TheConstants.{FILE_BYTES, MAPPINGS, MOD
 use Rattle.ad_base.specs.declared.ledger.Kind.TheVariants.{Code, Fixed}
 use Rattle.ad_base.specs.Count.{Rose}
 use Rattle.ad_base.specs.Outside.{Outside, Tells, Told}
-use Rattle.ad_form.specs.declared.image.TheConstants.{FIXED_PAGES, MOVABLE_PAGES}
-use Rattle.ad_form.specs.declared.read.Module.{Module}
-use Rattle.ad_form.specs.FormImage.{form_export, form_image}
-use Rattle.ad_form.specs.Object.{IsModule, IsText}
-use Rattle.ad_form.proofs.FormImage.{form_image-whole}
+use Rattle.ad_base.specs.Image.{fixed_pages, movable_pages}
+use Rattle.ad_link.specs.declared.refusal.LinkRefusal.{LinkRefusal}
+use Rattle.ad_link.specs.Plan.{IsPlan, IsRefused, IsRefusedAt, Planned}
+use Rattle.ad_link.specs.Plan as planned
+use Rattle.ad_reloc.specs.Image.{IsImage}
 use Rattle.ad_lines.specs.Opening.{AreLoaded, opening_drawn}
 use Rattle.ad_lines.proofs.LoadedPush.{drawn-push, loaded-none, loaded-push, seed-drawn}
 use Rattle.ad_lines.proofs.Opens.{length-drawn}
+use Rattle.ad_parts.specs.declared.layout.Sizes.{Sizes}
 use Rattle.ad_place.specs.Choice.{Drawn, next_place, with_next}
 use Rattle.ad_relate.specs.ClearHistory.{AreOffsets}
 use Rattle.ad_script.specs.declared.script.Load.{Load}
 use Rattle.ad_script.specs.declared.script.Script.{Script}
 use Rattle.ad_script.specs.Script.{IsScript}
 use Rattle.ad_command.specs.declared.trouble.Trouble.{Trouble}
-use Rattle.ad_command.specs.declared.trouble.Trouble.TheVariants.{BadScript, Form, Memory, Read, TooLarge}
-use Rattle.ad_command.specs.Chain.{Chain, Done, Found, IsFound, IsWrong, Judge, MayEnd, ModuleFile, Question, Refuse, ScriptText, Serves, Wrong, each_in_turn, judged}
-use Rattle.ad_command.specs.Loading.{file_of, image_behind, loaded_image, loaded_images, module_of, script_of}
+use Rattle.ad_command.specs.declared.trouble.Trouble.TheVariants.{BadScript, Memory, Read, TooLarge}
+use Rattle.ad_command.specs.Chain.{Chain, Done, Found, ImageAt, IsFound, IsWrong, Judge, MayEnd, ModuleFile, Question, Refuse, ScriptText, Serves, Wrong, each_in_turn, judged}
+use Rattle.ad_command.specs.Loading.{file_of, fixed_behind, image_at, loaded_image, loaded_images, module_of, script_of}
+use Rattle.ad_command.specs.Command.{shown_at, shown_in}
+use Rattle.ad_command.specs.Trouble.{refused_module}
 use Rattle.ad_command.proofs.Chains.{memory, serves-behind, serves-done, serves-memory, serves-judge, serves-refuse, serves-refused}
 
 -- a file that may be so long and isn't too long, and one that is
@@ -96,12 +99,16 @@ found o q trouble v is = serves-judge o o q (judged trouble) (Ok v) (Ok v) is (s
 amiss : (o : Outside) (q : Question) (trouble : Wrong q → Trouble) (wrong : Wrong q) → IsWrong q wrong → Serves o o (Judge q (judged trouble)) (Err (trouble wrong))
 amiss o q trouble wrong is = serves-judge o o q (judged trouble) (Err wrong) (Err (trouble wrong)) is (serves-refuse o (trouble wrong))
 
--- the verdict on a file: there is one thing that may be wrong
-pub judged-so : (o : Outside) (q : Question) (trouble : Wrong q → Trouble) (wrong : Wrong q) (r : Result (Found q) Trouble)
-    → IfOk r (IsFound q) → IfErr r (λ t. ((t ≡ trouble wrong) × IsWrong q wrong) ⊎ (t ≡ Memory)) → Serves o o (Judge q (judged trouble)) r
-judged-so o q trouble wrong (Ok v) ok err = found o q trouble v ok
-judged-so o q trouble wrong (Err t) ok (inl bad) = rw (bad.0) (amiss o q trouble wrong bad.1)
-judged-so o q trouble wrong (Err t) ok (inr wanting) = rw wanting (serves-memory o (Judge q (judged trouble)))
+-- what is wrong with what was asked, told as a fault; or want of memory
+abbrev pub IsTold : (q : Question) → (Wrong q → Trouble) → Trouble → Type 0
+IsTold q trouble t = ((wrong : Wrong q) × IsWrong q wrong × (t ≡ trouble wrong)) ⊎ (t ≡ Memory)
+
+-- the verdict on what was asked
+pub judged-so : (o : Outside) (q : Question) (trouble : Wrong q → Trouble) (r : Result (Found q) Trouble)
+    → IfOk r (IsFound q) → IfErr r (IsTold q trouble) → Serves o o (Judge q (judged trouble)) r
+judged-so o q trouble (Ok v) ok err = found o q trouble v ok
+judged-so o q trouble (Err t) ok (inl bad) = rw (bad.2) (amiss o q trouble bad.0 bad.1)
+judged-so o q trouble (Err t) ok (inr wanting) = rw wanting (serves-memory o (Judge q (judged trouble)))
 
 module _ (old new : Outside) (name : List ℕ) where
   script-next : List ℕ → Chain Script
@@ -111,46 +118,64 @@ module _ (old new : Outside) (name : List ℕ) where
   unfolding script_of script-next
   script-unread t first = serves-refused old new (file_of name) script-next t first
 
+  -- a script has one thing that may be wrong
+  script-told : (text : List ℕ) (r : Result Script Trouble) → IfErr r (λ t. ((t ≡ BadScript) × ((s : Script) → IsScript text s → ⊥)) ⊎ (t ≡ Memory)) → IfErr r (IsTold (ScriptText text) (λ wrong. BadScript))
+  script-told text (Ok s) err = tt
+  script-told text (Err t) (inl bad) = inl (tt, bad.1, bad.0)
+  script-told text (Err t) (inr wanting) = inr wanting
+
   pub script-read : (text : List ℕ) (r : Result Script Trouble) → Serves old new (file_of name) (Ok text)
       → IfOk r (IsScript text) → IfErr r (λ t. ((t ≡ BadScript) × ((s : Script) → IsScript text s → ⊥)) ⊎ (t ≡ Memory))
       → Serves old new (script_of name) r
   unfolding script_of script-next
-  script-read text r first ok err = serves-behind old new new (file_of name) script-next text r first (judged-so new (ScriptText text) (λ wrong. BadScript) tt r ok err)
+  script-read text r first ok err = serves-behind old new new (file_of name) script-next text r first (judged-so new (ScriptText text) (λ wrong. BadScript) r ok (script-told text r err))
 
-  module-next : List ℕ → Chain Module
-  module-next file = Judge (ModuleFile file) (judged (λ wrong. Form name))
+  module-next : List ℕ → Chain Planned
+  module-next file = Judge (ModuleFile file) (judged (refused_module name))
 
   pub module-unread : (t : Trouble) → Serves old new (file_of name) (Err t) → Serves old new (module_of name) (Err t)
   unfolding module_of module-next
   module-unread t first = serves-refused old new (file_of name) module-next t first
 
-  pub module-read : (file : List ℕ) (r : Result Module Trouble) → Serves old new (file_of name) (Ok file)
-      → IfOk r (IsModule file) → IfErr r (λ t. ((t ≡ Form name) × ((m : Module) → IsModule file m → ⊥)) ⊎ (t ≡ Memory))
+  pub module-read : (file : List ℕ) (r : Result Planned Trouble) → Serves old new (file_of name) (Ok file)
+      → IfOk r (IsPlan file) → IfErr r (λ t. ((w : LinkRefusal) × IsRefused file w × (t ≡ refused_module name w)) ⊎ (t ≡ Memory))
       → Serves old new (module_of name) r
   unfolding module_of module-next
-  module-read file r first ok err = serves-behind old new new (file_of name) module-next file r first (judged-so new (ModuleFile file) (λ wrong. Form name) tt r ok err)
+  module-read file r first ok err = serves-behind old new new (file_of name) module-next file r first (judged-so new (ModuleFile file) (refused_module name) r ok err)
 
--- a module that was read is a text of whole words
-pub module-whole : (file : List ℕ) (r : Result Module Trouble) → IfOk r (IsModule file) → IfOk r (λ (m : Module). IsText m.text)
-module-whole file (Ok m) is = is.whole
-module-whole file (Err t) is = tt
+-- what a plan's image at a place is said to be, or why it has none
+module _ (name : List ℕ) (p : Planned) (fixed : Place) where
+  pub image-judged : (o : Outside) (r : Result Image Trouble) → IfOk r (IsImage p.object p.layout p.tables fixed)
+      → IfErr r (λ t. ((w : LinkRefusal) × IsRefusedAt fixed p w × (t ≡ refused_module name w)) ⊎ (t ≡ Memory))
+      → Serves o o (image_at name p fixed) r
+  unfolding image_at
+  image-judged o r ok err = judged-so o (ImageAt p fixed) (refused_module name) r ok err
 
--- the image of a module
+-- the image of a load
 module _ (seed workers : ℕ) (before : List Image) (l : Load) (old new : Outside) where
   pub image-refused : (t : Trouble) → Serves old new (module_of l.file) (Err t) → Serves old new (loaded_image module_of seed workers before l) (Err t)
   unfolding loaded_image
-  image-refused t first = serves-refused old new (module_of l.file) (λ m. Done (image_behind seed workers before m)) t first
+  image-refused t first = serves-refused old new (module_of l.file) (λ p. image_at l.file p (fixed_behind seed workers before p)) t first
 
-  pub image-made : (m : Module) (i : Image) → Serves old new (module_of l.file) (Ok m)
-      → i ≡ form_image m (next_place (opening_drawn seed workers before) Fixed FIXED_PAGES) → Serves old new (loaded_image module_of seed workers before l) (Ok i)
+  pub image-made : (p : Planned) (r : Result Image Trouble) (fixed : Place) → fixed ≡ fixed_behind seed workers before p → Serves old new (module_of l.file) (Ok p)
+      → Serves new new (image_at l.file p fixed) r → Serves old new (loaded_image module_of seed workers before l) r
   unfolding loaded_image
-  image-made m i first same =
-      let image : Image = form_image m (next_place (opening_drawn seed workers before) Fixed FIXED_PAGES) in
-      rw same (serves-behind old new new (module_of l.file) (λ m. Done (image_behind seed workers before m)) m (Ok image) first (serves-done new image))
+  image-made p r fixed same first second =
+      serves-behind old new new (module_of l.file) (λ q. image_at l.file q (fixed_behind seed workers before q)) p r first
+      (subst (λ at. Serves new new (image_at l.file p at) r) same second)
 
-  pub image-wanting : (m : Module) → Serves old new (module_of l.file) (Ok m) → Serves old new (loaded_image module_of seed workers before l) (Err Memory)
-  unfolding loaded_image
-  image-wanting m first = serves-behind old new new (module_of l.file) (λ m. Done (image_behind seed workers before m)) m (Err Memory) first (serves-memory new (Done (image_behind seed workers before m)))
+-- the image of a module that is shown
+module _ (name : List ℕ) (old new : Outside) where
+  pub show-refused : (t : Trouble) → Serves old new (module_of name) (Err t) → Serves old new (shown_in name) (Err t)
+  unfolding shown_in
+  show-refused t first = serves-refused old new (module_of name) (λ p. image_at name p (shown_at (planned.fixed_pages p.layout.sizes))) t first
+
+  pub show-made : (p : Planned) (r : Result Image Trouble) (fixed : Place) → fixed ≡ shown_at (planned.fixed_pages p.layout.sizes) → Serves old new (module_of name) (Ok p)
+      → Serves new new (image_at name p fixed) r → Serves old new (shown_in name) r
+  unfolding shown_in
+  show-made p r fixed same first second =
+      serves-behind old new new (module_of name) (λ q. image_at name q (shown_at (planned.fixed_pages q.layout.sizes))) p r first
+      (subst (λ at. Serves new new (image_at name p at) r) same second)
 
 -- A chain of a step for each of a list, as far as it has come: what is left of it serves it all.
 pub record GoesOn {A B : Type 0} (f : List B → A → Chain B) (start now : Outside) (done : List B) (left all : List A) : Type 0 where
@@ -182,22 +207,16 @@ pub handed_on : {A : Type 0} (r : Result A Trouble) (u : Trouble) → IsErrAnd r
 handed_on (Ok a) u is = absurd is
 handed_on (Err t) u is = ap Err is
 
--- a module of the form that was loaded behind others, and the two places that were drawn for it
-pub form-loaded : (seed workers : ℕ) (before : List Image) (m : Module) (drawn : Drawn) (fixed : Place) (i : Image) → drawn ≡ opening_drawn seed workers before
-    → fixed ≡ next_place drawn Fixed FIXED_PAGES → IsModulePlace fixed → fixed.pages ≡ FIXED_PAGES → IsText m.text → i ≡ form_image m fixed
+-- a module that was loaded behind others, and the two places that were drawn for it
+pub module-loaded : (seed workers : ℕ) (before : List Image) (z : Sizes) (drawn : Drawn) (fixed : Place) (i : Image) → drawn ≡ opening_drawn seed workers before
+    → fixed ≡ next_place drawn Fixed (planned.fixed_pages z) → IsWhole i → AreOffsets i → i.fixed ≡ fixed → fixed.pages ≡ planned.fixed_pages z → movable_pages i ≡ planned.movable_pages z
     → AreLoaded seed workers before → length before < MODULES
-    → AreLoaded seed workers (before ++ i ∷ []) × (with_next (with_next drawn Fixed FIXED_PAGES) Code MOVABLE_PAGES ≡ opening_drawn seed workers (before ++ i ∷ []))
-unfolding form_image
-form-loaded seed workers before m drawn fixed i at chosen place pages text same loaded few =
-    let image : Image = form_image m fixed in
-    let whole : IsWhole image = form_image-whole m fixed text place pages in
-    let export : Export = form_export m.name in
-    let offsets : AreOffsets image = All-cons (λ (x : Export). x.offset < 2 ^ 64) export [] (lit≤ tt) (All-nil (λ (x : Export). x.offset < 2 ^ 64)) in
-    let there : fixed ≡ next_place (opening_drawn seed workers before) Fixed FIXED_PAGES = chosen ∙ ap (λ (d : Drawn). next_place d Fixed FIXED_PAGES) at in
-    let are : AreLoaded seed workers (before ++ image ∷ []) = loaded-push seed workers before image loaded few whole offsets there in
-    let places : with_next (with_next drawn Fixed FIXED_PAGES) Code MOVABLE_PAGES ≡ opening_drawn seed workers (before ++ image ∷ []) =
-    ap (λ (d : Drawn). with_next (with_next d Fixed FIXED_PAGES) Code MOVABLE_PAGES) at ∙ sym (drawn-push seed workers before image) in
-    subst (λ (x : Image). AreLoaded seed workers (before ++ x ∷ []) × (with_next (with_next drawn Fixed FIXED_PAGES) Code MOVABLE_PAGES ≡ opening_drawn seed workers (before ++ x ∷ []))) (sym same) (are, places)
+    → AreLoaded seed workers (before ++ i ∷ []) × (with_next (with_next drawn Fixed (planned.fixed_pages z)) Code (planned.movable_pages z) ≡ opening_drawn seed workers (before ++ i ∷ []))
+module-loaded seed workers before z drawn fixed i at chosen whole offsets lies pages movable loaded few =
+    let size : planned.fixed_pages z ≡ fixed_pages i = sym pages ∙ ap (λ (p : Place). p.pages) (sym lies) ∙ whole.fixed_size in
+    let there : i.fixed ≡ next_place (opening_drawn seed workers before) Fixed (fixed_pages i) = lies ∙ chosen ∙ (λ j. next_place (at j) Fixed (size j)) in
+    let are : AreLoaded seed workers (before ++ i ∷ []) = loaded-push seed workers before i loaded few whole offsets there in
+    (are, (λ j. with_next (with_next (at j) Fixed (size j)) Code (sym movable j)) ∙ sym (drawn-push seed workers before i))
 
 -- the modules of a script, as far as they are loaded
 pub record IsLoading (seed : ℕ) (s : Script) (start now : Outside) (placer : Drawn) (images : List Image) (i : ℕ) : Type 0 where

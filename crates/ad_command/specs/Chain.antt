@@ -2,29 +2,36 @@
 use Rattle.std.specs.Prelude.{◌≡◌, ◌⊎◌, ℕ, List, [], ◌∷◌, ◌++◌, Option, None, Some, IfSome, Result, Ok, Err}
 use Rattle.ad_base.specs.Count.{Rose}
 use Rattle.ad_base.specs.Outside.{Outside, Tells, Told}
-use Rattle.ad_form.specs.declared.read.Module.{Module}
-use Rattle.ad_form.specs.Object.{IsModule}
+use Rattle.ad_base.specs.declared.image.Image.{Image}
+use Rattle.ad_base.specs.declared.place.Place.{Place}
+use Rattle.ad_link.specs.declared.refusal.LinkRefusal.{LinkRefusal}
+use Rattle.ad_link.specs.Plan.{IsPlan, IsRefused, IsRefusedAt, Planned}
+use Rattle.ad_reloc.specs.Image.{IsImage}
 use Rattle.ad_script.specs.declared.script.Script.{Script}
 use Rattle.ad_script.specs.Script.{IsScript}
 use Rattle.ad_command.specs.declared.trouble.Trouble.{Trouble}
 use Rattle.ad_command.specs.declared.trouble.Trouble.TheVariants.{Read, Memory}
 
 -- What a chain has judged, where the answer is a relation and no function:
---     ScriptText bytes      which script bytes are the text of
---     ModuleFile bytes      which module bytes are the file of
+--     ScriptText bytes        which script bytes are the text of
+--     ModuleFile bytes        what the link of these bytes finds before the immovable part has a place
+--     ImageAt plan fixed      what image the plan of a link has with its immovable part at a place
 pub data Question : Type 0 where
   ScriptText : List ℕ → Question
   ModuleFile : List ℕ → Question
+  ImageAt : Planned → Place → Question
 
 -- what is found where nothing is wrong
 abbrev pub Found : Question → Type 0
 Found (ScriptText bytes) = Script
-Found (ModuleFile bytes) = Module
+Found (ModuleFile bytes) = Planned
+Found (ImageAt p fixed) = Image
 
--- what may be wrong: so far one thing, that the bytes have another form
+-- what may be wrong: with a script one thing, that the bytes have another form; with a module what its link refuses
 abbrev pub Wrong : Question → Type 0
 Wrong (ScriptText bytes) = Unit {0}
-Wrong (ModuleFile bytes) = Unit {0}
+Wrong (ModuleFile bytes) = LinkRefusal
+Wrong (ImageAt p fixed) = LinkRefusal
 
 -- what was found, or what is wrong
 abbrev pub Verdict : Question → Type 0
@@ -32,11 +39,13 @@ Verdict q = Result (Found q) (Wrong q)
 
 abbrev pub IsFound : (q : Question) → Found q → Type 0
 IsFound (ScriptText bytes) s = IsScript bytes s
-IsFound (ModuleFile bytes) m = IsModule bytes m
+IsFound (ModuleFile bytes) p = IsPlan bytes p
+IsFound (ImageAt p fixed) i = IsImage p.object p.layout p.tables fixed i
 
 abbrev pub IsWrong : (q : Question) → Wrong q → Type 0
 IsWrong (ScriptText bytes) wrong = (s : Script) → IsScript bytes s → ⊥
-IsWrong (ModuleFile bytes) wrong = (m : Module) → IsModule bytes m → ⊥
+IsWrong (ModuleFile bytes) r = IsRefused bytes r
+IsWrong (ImageAt p fixed) r = IsRefusedAt fixed p r
 
 -- the verdict is right
 abbrev pub IsVerdict : (q : Question) → Verdict q → Type 0

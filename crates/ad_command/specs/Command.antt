@@ -1,14 +1,16 @@
 -- The chain of a command.
 use Rattle.std.specs.Prelude.{ℕ, List}
 use Rattle.ad_base.specs.declared.image.Image.{Image}
-use Rattle.ad_form.specs.declared.read.Module.{Module}
+use Rattle.ad_base.specs.declared.layout.TheConstants.{MODULE_REGION}
+use Rattle.ad_base.specs.declared.place.Place.{Place}
+use Rattle.ad_link.specs.Plan.{Planned, fixed_pages}
 use Rattle.ad_lines.specs.declared.ready.ReadyStep.{ReadyStep}
 use Rattle.ad_lines.specs.Ready.{ready_steps}
 use Rattle.ad_script.specs.declared.script.Script.{Script}
 use Rattle.ad_command.specs.declared.trouble.Trouble.TheVariants.{NoExport, Usage}
 use Rattle.ad_command.specs.Chain.{Chain, Done, ◌>>=◌, given, judged}
-use Rattle.ad_command.specs.Loading.{loaded_images, module_of, script_of}
-use Rattle.ad_command.specs.Words.{Command, Predict, Seq, command_of}
+use Rattle.ad_command.specs.Loading.{image_at, loaded_images, module_of, script_of}
+use Rattle.ad_words.specs.Words.{Command, Predict, Seq, Show, command_of}
 
 -- a run that may begin: the seed of its places, the steps that a call may make, the script, the images of its modules,
 -- and its steps
@@ -22,13 +24,15 @@ pub record Job : Type 0 where
 -- What is done once all files of a command were read:
 --     Lines job          the job's lines are run one after another, and the run is reported
 --     Predicted job      what the symbolic machine says of the job's calls is told
+--     Shown image        the image of a module is listed
 pub data Work : Type 0 where
   Lines : Job → Work
   Predicted : Job → Work
+  Shown : Image → Work
 
 -- the job of a script, where the module in the file of a name is had so: its modules are loaded, and each call finds its
 -- export
-unfoldable pub job_of : (List ℕ → Chain Module) → Script → ℕ → ℕ → Chain Job
+unfoldable pub job_of : (List ℕ → Chain Planned) → Script → ℕ → ℕ → Chain Job
 job_of module_of script seed fuel = do
   images ← loaded_images module_of seed script
   steps ← judged NoExport (ready_steps images script.steps)
@@ -40,10 +44,21 @@ job_in name seed fuel = do
   script ← script_of name
   job_of module_of script seed fuel
 
+-- where an immovable part of so many pages lies while its module is shown: at the start of the first region for modules
+abbrev pub shown_at : ℕ → Place
+shown_at pages = record { region = MODULE_REGION; start = 1; pages = pages; mapping = 1; frame = 0 }
+
+-- the image of the module in a file that is shown
+unfoldable pub shown_in : List ℕ → Chain Image
+shown_in name = do
+  p ← module_of name
+  image_at name p (shown_at (fixed_pages p.layout.sizes))
+
 -- the work of a command
 abbrev pub work_of : Command → Chain Work
 work_of (Seq script seed fuel) = job_in script seed fuel >>= λ j. Done (Lines j)
 work_of (Predict script seed fuel) = job_in script seed fuel >>= λ j. Done (Predicted j)
+work_of (Show file) = shown_in file >>= λ i. Done (Shown i)
 
 -- the whole chain
 unfoldable pub command : List (List ℕ) → Chain Work

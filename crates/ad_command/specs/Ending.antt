@@ -10,21 +10,23 @@ use Rattle.ad_base.specs.declared.place.Place.{Place}
 use Rattle.ad_base.specs.Book.{Contents, contents_of}
 use Rattle.ad_base.specs.Ledger.{IsLedger, IsUnmappedOnce, Mapping, made_mappings}
 use Rattle.ad_base.specs.Count.{Rose}
+use Rattle.ad_base.specs.Image.{IsWhole}
 use Rattle.ad_base.specs.Outside.{Output}
 use Rattle.ad_core.specs.Turn.{IsLawful}
 use Rattle.ad_lines.specs.declared.ready.ReadyStep.{ReadyStep}
 use Rattle.ad_lines.specs.declared.ready.ReadyStep.TheVariants as ready
-use Rattle.ad_lines.specs.LineLaws.{calls_of_module, draw_of, move_request, move_requests, run_of_seed, step_of}
+use Rattle.ad_lines.specs.LineLaws.{AreSteps, calls_of_module, draw_of, move_request, move_requests, run_of_seed, step_of}
 use Rattle.ad_lines.specs.LineRun.{ModuleState, RunState}
-use Rattle.ad_lines.specs.Opening.{drawn_for, opening_drawn, opening_mappings, opening_requests}
+use Rattle.ad_lines.specs.Opening.{AreLoaded, drawn_for, opening_drawn, opening_mappings, opening_requests}
 use Rattle.ad_place.specs.Choice.{places_of}
 use Rattle.ad_predict.specs.Prediction.{prediction}
 use Rattle.ad_relate.specs.ClearHistory.{RepliesAsReplayed}
+use Rattle.ad_report.specs.Listing.{listing}
 use Rattle.ad_report.specs.Report.{report}
 use Rattle.ad_command.specs.declared.top.Ended.{Ended}
 use Rattle.ad_command.specs.declared.trouble.Trouble.{Trouble}
 use Rattle.ad_command.specs.declared.trouble.Trouble.TheVariants.{Memory, Read, Write}
-use Rattle.ad_command.specs.Command.{Job, Lines, Predicted, Work}
+use Rattle.ad_command.specs.Command.{Job, Lines, Predicted, Shown, Work}
 
 -- what work comes to: what the books of the modules hold, what came of the moves, a row for each mapping, and the
 -- text that is to be written
@@ -85,17 +87,23 @@ pub record IsSoundRun (opening : List Mapping) (j : Job) (e : Ending) : Type 0 w
 abbrev pub IsReported : Job → Ending → Type 0
 IsReported j e = e.text ≡ report j.script e.books e.moves e.rows
 
--- Nothing was run: there are no books, no moves and no mappings, and the text is the prediction of the job's calls.
-pub record IsPredicted (j : Job) (e : Ending) : Type 0 where
+-- the images of a job were loaded, and its steps may be run on them, in order of their lines
+pub record CanRun (j : Job) : Type 0 where
+  pub loaded : AreLoaded j.seed j.script.workers j.images
+  pub steps : AreSteps j.images j.script.workers j.steps
+
+-- Nothing was run: there are no books, no moves and no mappings, and this is the text.
+pub record IsTextAlone (text : List ℕ) (e : Ending) : Type 0 where
   pub no_book : e.books ≡ []
   pub no_move : e.moves ≡ []
   pub no_row : e.rows ≡ []
-  pub text_is : e.text ≡ prediction j.script j.images j.fuel j.steps
+  pub text_is : e.text ≡ text
 
--- what work comes to
+-- what work comes to: the run of a job's lines and its report, the prediction of its calls, or the listing of a whole image
 abbrev pub IsDone : Work → Ending → Type 0
-IsDone (Lines j) e = IsLineRun j e × IsSoundRun (opening_of_job j) j e × IsReported j e
-IsDone (Predicted j) e = IsPredicted j e
+IsDone (Lines j) e = CanRun j × IsLineRun j e × IsSoundRun (opening_of_job j) j e × IsReported j e
+IsDone (Predicted j) e = CanRun j × IsTextAlone (prediction j.script j.images j.fuel j.steps) e
+IsDone (Shown i) e = IsWhole i × IsTextAlone (listing i) e
 
 -- the fault of a chain's end
 abbrev pub fault_of : {A : Type 0} → Result A Trouble → Option Trouble
@@ -113,6 +121,10 @@ Answers fault due names =
 -- these names, or the first of them, were asked for, where that is told
 abbrev pub AsksFirstOf : Option (List (List ℕ)) → Option (List (List ℕ)) → List (List ℕ) → Type 0
 AsksFirstOf old new all = IfSome old (λ before. (names more : List (List ℕ)) × (names ++ more ≡ all) × (new ≡ Some (before ++ names)))
+
+-- the file of this name was asked for last, where that is told
+abbrev pub AskedLast : Option (List (List ℕ)) → Option (List (List ℕ)) → List ℕ → Type 0
+AskedLast old new name = IfSome old (λ before. (names : List (List ℕ)) × (new ≡ Some (before ++ names ++ name ∷ [])))
 
 -- The whole text was written, or a prefix of it that isn't all, where the sink failed. Its count of faults stays in the
 -- first case, and rose in the second.

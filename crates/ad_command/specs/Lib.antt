@@ -1,4 +1,3 @@
-pub mod Words
 pub mod Trouble
 pub mod Chain
 pub mod Loading

@@ -1,32 +1,31 @@
 //! Laws of the command.
 
-ghost use Rattle.std.specs.Prelude.{◌≡◌, ◌≤◌, ℕ, List, [], ◌∷◌, length, map, codes, false, Result, Ok, Err};
-ghost use Rattle.std.specs.List.{AllZip};
+ghost use Rattle.std.specs.Prelude.{◌≡◌, ◌≤◌, ℕ, List, [], ◌∷◌, ◌++◌, length, map, codes, Result, Some, Ok, Err};
 ghost use Rattle.ad_base.specs.declared.image.Image.{Image};
-ghost use Rattle.ad_form.specs.declared.read.Module.{Module};
-ghost use Rattle.ad_form.specs.Object.{IsModule};
+ghost use Rattle.ad_link.specs.declared.refusal.LinkRefusal.{LinkRefusal};
+ghost use Rattle.ad_link.specs.Plan.{IsPlan, Planned, fixed_pages};
+ghost use Rattle.ad_reloc.specs.Image.{IsImage};
 ghost use Rattle.ad_lines.specs.declared.ready.ReadyStep.{ReadyStep};
 ghost use Rattle.ad_lines.specs.Ready.{ready_steps};
 ghost use Rattle.ad_script.specs.declared.script.Load.{Load};
 ghost use Rattle.ad_script.specs.declared.script.Script.{Script};
 ghost use Rattle.ad_script.specs.Script.{IsScript};
-ghost use Rattle.ad_command.specs.Chain.{Gives, IsWrong, ModuleFile};
-ghost use Rattle.ad_command.specs.Command.{Lines, Predicted, Work, command};
-ghost use Rattle.ad_command.specs.Loading.{images_behind, loaded_images, module_of};
-ghost use Rattle.ad_command.specs.Words.{is_option};
+ghost use Rattle.ad_command.specs.Chain.{Gives};
+ghost use Rattle.ad_command.specs.Command.{Lines, Predicted, Shown, Work, command, shown_at};
+ghost use Rattle.ad_command.specs.Loading.{AreLinked, IsRefusedLoad, loaded_images, module_of};
+ghost use Rattle.ad_command.specs.Trouble.{refused_module};
+ghost use Rattle.ad_words.specs.Words.{Predict, Seq, Show, command_of};
 
 use crate::trouble::Trouble;
-use crate::words::{FUEL, SEED};
 use ad_base::FILE_BYTES;
 
-/// Where the first file that a script loads isn't too long and is no module, the refusal tells its name, and no other
-/// file is asked for. This holds whatever the files behind it are, and so too where a second one is no module either.
+/// The chain of a script's loads ends at the first that a link refuses, before or after its immovable part has a place: the
+/// fault tells its file and the refusal, and no file behind it is asked for, whatever that holds.
 pub fn law_first_refusal()
-    ensures { (files : List ℕ → List ℕ) (seed : ℕ) (s : Script) (first : Load) (more : List Load)
-        (names : List (List ℕ)) (due : Result (List Image) Trouble)
-        → s.loads ≡ first ∷ more → length (files first.file) ≤ FILE_BYTES → IsWrong (ModuleFile (files first.file)) tt
-        → Gives files (loaded_images module_of seed s) names due
-        → (due ≡ Err (Trouble.Form first.file)) × (names ≡ first.file ∷ []) }
+    ensures { (files : List ℕ → List ℕ) (seed : ℕ) (s : Script) (linked : List Load) (l : Load) (more : List Load)
+        (images : List Image) (r : LinkRefusal)
+        → s.loads ≡ linked ++ l ∷ more → AreLinked files seed s.workers [] linked images → IsRefusedLoad files seed s.workers images l r
+        → Gives files (loaded_images module_of seed s) (map (λ x. x.file) linked ++ l.file ∷ []) (Err (refused_module l.file r)) }
 {}
 
 /// Worked chains: words of no command, a command without an operand, an option, and a script's file without a byte.
@@ -45,20 +44,23 @@ pub fn law_one_answer()
         → (names ≡ more) × (due ≡ other) }
 {}
 
-/// The chain of right words is done, where the script's file and the files of the modules that it loads aren't too long
-/// and have their forms, and each call finds its export. It asks for these files, in order, and its work is to run the
-/// script's lines on those modules, at the places that the seed draws, or to predict its calls.
+/// The chain of right words is done, where the script's file and the files of the modules that it loads aren't too long,
+/// the script has its form, the modules are linked, and each call finds its export. It asks for these files, in order, and
+/// its work is to run the script's lines on those modules, with their parts at the places that the seed draws, or to predict
+/// its calls; or to list the one module that is shown.
 pub fn law_right_commands_are_done()
-    ensures seq { (files : List ℕ → List ℕ) (operand : List ℕ) (s : Script) (ms : List Module) (steps : List ReadyStep)
-        → is_option operand ≡ false → length (files operand) ≤ FILE_BYTES → IsScript (files operand) s
-        → AllZip (λ (l : Load) (m : Module). (length (files l.file) ≤ FILE_BYTES) × IsModule (files l.file) m) s.loads ms
-        → ready_steps (images_behind SEED s.workers [] ms) s.steps ≡ Ok steps
-        → Gives files (command (codes "seq" ∷ operand ∷ [])) (operand ∷ map (λ l. l.file) s.loads)
-        (Ok (Lines (record { seed = SEED; fuel = FUEL; script = s; images = images_behind SEED s.workers [] ms; steps = steps }))) }
-    ensures predict { (files : List ℕ → List ℕ) (operand : List ℕ) (s : Script) (ms : List Module) (steps : List ReadyStep)
-        → is_option operand ≡ false → length (files operand) ≤ FILE_BYTES → IsScript (files operand) s
-        → AllZip (λ (l : Load) (m : Module). (length (files l.file) ≤ FILE_BYTES) × IsModule (files l.file) m) s.loads ms
-        → ready_steps (images_behind SEED s.workers [] ms) s.steps ≡ Ok steps
-        → Gives files (command (codes "predict" ∷ operand ∷ [])) (operand ∷ map (λ l. l.file) s.loads)
-        (Ok (Predicted (record { seed = SEED; fuel = FUEL; script = s; images = images_behind SEED s.workers [] ms; steps = steps }))) }
+    ensures seq { (files : List ℕ → List ℕ) (words : List (List ℕ)) (operand : List ℕ) (seed fuel : ℕ) (s : Script) (images : List Image) (steps : List ReadyStep)
+        → command_of words ≡ Some (Seq operand seed fuel) → length (files operand) ≤ FILE_BYTES → IsScript (files operand) s
+        → AreLinked files seed s.workers [] s.loads images → ready_steps images s.steps ≡ Ok steps
+        → Gives files (command words) (operand ∷ map (λ l. l.file) s.loads)
+        (Ok (Lines (record { seed = seed; fuel = fuel; script = s; images = images; steps = steps }))) }
+    ensures predict { (files : List ℕ → List ℕ) (words : List (List ℕ)) (operand : List ℕ) (seed fuel : ℕ) (s : Script) (images : List Image) (steps : List ReadyStep)
+        → command_of words ≡ Some (Predict operand seed fuel) → length (files operand) ≤ FILE_BYTES → IsScript (files operand) s
+        → AreLinked files seed s.workers [] s.loads images → ready_steps images s.steps ≡ Ok steps
+        → Gives files (command words) (operand ∷ map (λ l. l.file) s.loads)
+        (Ok (Predicted (record { seed = seed; fuel = fuel; script = s; images = images; steps = steps }))) }
+    ensures show { (files : List ℕ → List ℕ) (words : List (List ℕ)) (operand : List ℕ) (p : Planned) (i : Image)
+        → command_of words ≡ Some (Show operand) → length (files operand) ≤ FILE_BYTES → IsPlan (files operand) p
+        → IsImage p.object p.layout p.tables (shown_at (fixed_pages p.layout.sizes)) i
+        → Gives files (command words) (operand ∷ []) (Ok (Shown i)) }
 {}

@@ -16,7 +16,6 @@ mod load;
 mod tests;
 mod top;
 mod trouble;
-mod words;
 
 use ad_base::{DiskFiles, OutSink};
 pub use laws::{law_first_refusal, law_one_answer, law_right_commands_are_done, law_worked_chains};
@@ -25,7 +24,6 @@ use std::rt::Env;
 use std::{env, io};
 pub use top::{Ended, top_still};
 pub use trouble::{Trouble, exit_status, unread_words};
-pub use words::{FUEL, SEED, law_defaults};
 
 /// Serves the words of the process over the files of the system and standard output, and gives the status that the
 /// process ends with. A fault is told on standard error. What the words come to is said by `run_words`.

@@ -2,20 +2,28 @@
 
 ghost use Rattle.std.specs.Prelude.{◌≡◌, ◌⊎◌, ◌+◌, ◌++◌, ◌<◌, ◌≤◌, List, ℕ, [], ◌∷◌, length, IfOk, IfErr, Ok, Err};
 ghost use Rattle.ad_base.specs.declared.image.Image.{Image};
-ghost use Rattle.ad_form.specs.declared.read.Module.{Module};
-ghost use Rattle.ad_form.specs.Object.{IsModule, IsText};
+ghost use Rattle.ad_base.specs.Image.{IsWhole, movable_pages};
+ghost use Rattle.ad_base.specs.Place.{IsModulePlace};
+ghost use Rattle.ad_link.specs.declared.refusal.LinkRefusal.{LinkRefusal};
+ghost use Rattle.ad_link.specs.Plan.{IsPlan, IsRefused, IsRefusedAt, fixed_pages};
+ghost use Rattle.ad_link.specs.Plan as planned;
+ghost use Rattle.ad_relate.specs.ClearHistory.{AreOffsets};
+ghost use Rattle.ad_reloc.specs.Image.{IsImage};
 ghost use Rattle.ad_lines.specs.Opening.{opening_drawn, AreLoaded};
 ghost use Rattle.ad_script.specs.declared.script.Script.{Script};
 ghost use Rattle.ad_script.specs.Script.{IsFileName, IsInRange, IsScript};
 ghost use Rattle.ad_command.specs.Chain.{Serves};
 ghost use Rattle.ad_command.specs.Private.Seen.{seen};
-ghost use Rattle.ad_command.specs.Loading.{file_of, loaded_image, loaded_images, module_of, script_of};
+ghost use Rattle.ad_command.specs.Command.{shown_at, shown_in};
+ghost use Rattle.ad_command.specs.Loading.{file_of, image_at, loaded_image, loaded_images, module_of, script_of};
+ghost use Rattle.ad_command.specs.Trouble.{refused_module};
 
-use crate::trouble::Trouble;
+use crate::trouble::{Trouble, refused_module};
 use ad_base::{
-    Fetch, Files, Image, Kind, MAPPINGS, MODULES, Name, OutOfMemory, STACK_PAGES, WORKERS,
+    Fetch, Files, Image, Kind, MAPPINGS, MODULE_REGION, MODULES, Name, OutOfMemory, Place,
+    STACK_PAGES, WORKERS,
 };
-use ad_form::{FIXED_PAGES, MOVABLE_PAGES, Module, image_of, law_form_image, read_module};
+use ad_link::{LinkPlan, plan};
 use ad_place::Placer;
 use ad_script::{Load, Script, file_text, law_in_range, read_script};
 use std::alloc::Global;
@@ -112,29 +120,70 @@ fn load_image<F: Files>(
         → placer.old ≡ opening_drawn placer.old.seed workers before
         → AreLoaded placer.old.seed workers (before ++ i ∷ []) × (placer.new ≡ opening_drawn placer.old.seed workers (before ++ i ∷ []))) }
 {
-    let module = module_of(alloc, files, &load.file)?;
-    law_form_image();
-    let fixed = placer.next(Kind::Fixed, FIXED_PAGES);
-    let image = image_of(alloc, module, fixed)?;
-    placer.next(Kind::Code, MOVABLE_PAGES);
+    let name = file_text(&load.file);
+    let plan = plan_of(alloc, files, name)?;
+    let movable_pages = plan.movable_pages();
+    let fixed = placer.next(Kind::Fixed, plan.fixed_pages());
+    let image = image_at(alloc, name, plan, fixed)?;
+    placer.next(Kind::Code, movable_pages);
     Ok(image)
 }
 
-/// The module in the file of this name.
-fn module_of<F: Files>(alloc: Global, files: &mut F, name: &Name) -> Result<Module, Trouble>
-    requires { IsFileName name.now }
-    ensures serves { Serves (F.outside files.old) (F.outside files.new) (module_of name.now) result }
-    ensures whole { IfOk result (λ m. IsText m.text) }
+/// The image of the module in the file of this name, with its immovable part where a module's is shown.
+pub fn shown_image<F: Files>(alloc: Global, files: &mut F, name: &str) -> Result<Image, Trouble>
+    ensures serves { Serves (F.outside files.old) (F.outside files.new) (shown_in name.now) result }
+    ensures whole { IfOk result IsWhole }
 {
-    let file = file_of(alloc, files, file_text(name))?;
+    let plan = plan_of(alloc, files, name)?;
+    let fixed = shown_at(plan.fixed_pages());
+    image_at(alloc, name, plan, fixed)
+}
+
+/// Where an immovable part of so many pages lies while its module is shown: at the start of the first region for modules.
+fn shown_at(pages: u16) -> Place
+    ensures { result ≡ shown_at pages }
+{
+    Place {
+        region: MODULE_REGION as u16,
+        start: 1,
+        pages,
+        mapping: 1,
+        frame: 0,
+    }
+}
+
+/// What the link of the file of this name finds before the immovable part has a place.
+fn plan_of<F: Files>(alloc: Global, files: &mut F, name: &str) -> Result<LinkPlan, Trouble>
+    ensures { Serves (F.outside files.old) (F.outside files.new) (module_of name.now) result }
+{
+    let file = file_of(alloc, files, name)?;
     parse_module(alloc, &file, name)
 }
 
-/// What the file of a module says, whose name is this.
-fn parse_module(alloc: Global, file: &[u8], name: &Name) -> Result<Module, Trouble>
-    ensures means { IfOk result (IsModule file.now) }
-    ensures fault { IfErr result (λ t. ((t ≡ Trouble.Form name.now) × ((m : Module) → IsModule file.now m → ⊥)) ⊎ (t ≡ Trouble.Memory)) }
+/// What the link of a file finds, whose name is this.
+fn parse_module(alloc: Global, file: &[u8], name: &str) -> Result<LinkPlan, Trouble>
+    ensures planned { IfOk result (IsPlan file.now) }
+    ensures fault { IfErr result (λ t. ((r : LinkRefusal) × IsRefused file.now r × (t ≡ refused_module name.now r)) ⊎ (t ≡ Trouble.Memory)) }
 {
-    let named = Name::of(alloc, name.bytes())?;
-    read_module(alloc, file)?.ok_or(Trouble::Form { file: named })
+    match plan(alloc, file) {
+        Ok(plan) => Ok(plan),
+        Err(refusal) => Err(refused_module(alloc, name, &refusal)),
+    }
+}
+
+/// The image of a plan, with the immovable part at this place. The plan is of the file of this name.
+fn image_at(alloc: Global, name: &str, plan: LinkPlan, fixed: Place) -> Result<Image, Trouble>
+    requires place { IsModulePlace fixed }
+    requires pages { fixed.pages ≡ fixed_pages plan.layout.sizes }
+    ensures image { IfOk result (λ i. IsImage plan.object plan.layout plan.tables fixed i) }
+    ensures whole { IfOk result IsWhole }
+    ensures fixed { IfOk result (λ i. i.fixed ≡ fixed) }
+    ensures movable_pages { IfOk result (λ i. movable_pages i ≡ planned.movable_pages plan.layout.sizes) }
+    ensures offsets { IfOk result AreOffsets }
+    ensures fault { IfErr result (λ t. ((r : LinkRefusal) × IsRefusedAt fixed plan r × (t ≡ refused_module name.now r)) ⊎ (t ≡ Trouble.Memory)) }
+{
+    match plan.finish(alloc, fixed) {
+        Ok(image) => Ok(image),
+        Err(refusal) => Err(refused_module(alloc, name, &refusal)),
+    }
 }

@@ -1,8 +1,11 @@
 //! The command over files and a sink in memory: worked examples of a run, and each refusal.
 
+mod linked;
+mod objects;
+
 use crate::top::{Ended, top_still};
 use ad_base::{MemFile, MemFiles, MemSink, Name, Sequence};
-use ad_form::written;
+use objects::function;
 use std::alloc::Global;
 use std::process::Abort;
 use std::test::Fail;
@@ -164,17 +167,6 @@ fn serve(rt: &impl AllocGlobal, given: &Given) -> Result<Served, Fail> {
     plain_values(alloc, &ended, &files, &out)
 }
 
-/// The object of these instruction words.
-fn object(rt: &(impl Abort + AllocGlobal), words: &[u32], name: &[u8]) -> Result<Vec<u8>, Fail> {
-    let alloc = rt.alloc();
-    let mut text = Vec::new(alloc);
-    for word in words {
-        text.extend_from_slice(&word.to_le_bytes())?;
-    }
-    assert!(rt; text.len() <= 4096);
-    Ok(written(alloc, text.as_slice(), name)?)
-}
-
 /// Asserts the status and the text of the fault.
 fn expect_fault(rt: &impl Abort, served: &Served, status: u8, fault: &str) {
     assert_eq!(rt; served.fault.as_str(), fault);
@@ -229,7 +221,7 @@ fn whole_reports(rt: HostRuntime) -> Result<(), Fail> {
         (&SUM, b"sum", b"load m f\n", LOAD_REPORT),
     ];
     for (words, name, script, report) in cases {
-        let module = object(&rt, words, name)?;
+        let module = function(rt.alloc(), words, name)?;
         let served = serve(&rt, &seq(script, module.as_slice()))?;
         expect_fault(&rt, &served, 0, "");
         assert_eq!(rt; served.written.as_slice(), report);
@@ -290,7 +282,7 @@ fn predictions(rt: HostRuntime) -> Result<(), Fail> {
         ),
     ];
     for (words, lines, text) in cases {
-        let module = object(&rt, words, b"e")?;
+        let module = function(rt.alloc(), words, b"e")?;
         let script = format!(in rt.alloc(); "load m f\n{lines}")?;
         let served = serve(&rt, &predict(script.as_bytes(), module.as_slice()))?;
         expect_fault(&rt, &served, 0, "");
@@ -305,13 +297,13 @@ fn predictions(rt: HostRuntime) -> Result<(), Fail> {
 
 #[test]
 fn predictions_that_are_refused(rt: HostRuntime) -> Result<(), Fail> {
-    let adder = object(&rt, &SUM, b"sum")?;
+    let adder = function(rt.alloc(), &SUM, b"sum")?;
     let sum = adder.as_slice();
     let call: &[u8] = b"load m f\ncall 0 m.sum 2 3\n";
     let none: &[u8] = b"load m f\ncall 0 m.sum\ncall 0 m.none\n";
     let cases: [(&[u8], &[u8], u8, &str, usize); 3] = [
         (b"", sum, 2, "adelie: script", 1),
-        (call, b"", 3, "adelie: module f: form", 2),
+        (call, b"", 3, "adelie: module f: object 1", 2),
         (none, sum, 3, "adelie: line 3: no export", 2),
     ];
     for (script, module, status, fault, asked) in cases {
@@ -328,7 +320,7 @@ fn expect_begin(
     lines: &str,
     begin: &str,
 ) -> Result<(), Fail> {
-    let module = object(rt, words, b"e")?;
+    let module = function(rt.alloc(), words, b"e")?;
     let script = format!(in rt.alloc(); "load m f\n{lines}")?;
     let served = serve(rt, &seq(script.as_bytes(), module.as_slice()))?;
     expect_fault(rt, &served, 0, "");
@@ -417,7 +409,7 @@ fn expect_lines_and_end(
     lines: &str,
     end: &str,
 ) -> Result<(), Fail> {
-    let module = object(rt, &SUM, b"sum")?;
+    let module = function(rt.alloc(), &SUM, b"sum")?;
     let served = serve(rt, &seq(script, module.as_slice()))?;
     expect_fault(rt, &served, 0, "");
     let report = std::str::from_utf8(served.written.as_slice())?;
@@ -465,17 +457,21 @@ fn the_longest_script(rt: HostRuntime) -> Result<(), Fail> {
 
 #[test]
 fn words_of_no_grammar(rt: HostRuntime) -> Result<(), Fail> {
-    let module = object(&rt, &SUM, b"sum")?;
-    let lists: [&[&str]; 9] = [
+    let module = function(rt.alloc(), &SUM, b"sum")?;
+    let lists: [&[&str]; 13] = [
         &[],
         &["seq"],
         &["predict"],
+        &["show"],
+        &["show", "-f"],
         &["predict", "--fuel"],
         &["run", "s"],
-        &["seq", "-"],
-        &["seq", "--seed"],
+        &["seq", "-s"],
         &["seq", "s", "f"],
         &["s", "seq"],
+        &["seq", "s", "--fuel", "0"],
+        &["seq", "--seed=", "s"],
+        &["show", "f", "--fuel", "1"],
     ];
     for words in lists {
         let given = Given {
@@ -489,13 +485,62 @@ fn words_of_no_grammar(rt: HostRuntime) -> Result<(), Fail> {
 }
 
 #[test]
+fn options(rt: HostRuntime) -> Result<(), Fail> {
+    let module = function(rt.alloc(), &COUNT, b"e")?;
+    let script: &[u8] = b"load m f\ncall 0 m.e 4\n";
+    let cases: [(&[&str], &str); 4] = [
+        (
+            &["seq", "s", "--fuel", "3"],
+            "call 2 w0 m.e at 0 under 3: trap fuel\nmap 1 stack w0 region 47222 ",
+        ),
+        (
+            &["seq", "--fuel=4", "--seed", "0", "--", "s"],
+            "call 2 w0 m.e at 0 under 3: returned 7\nmap 1 stack w0 region 47222 ",
+        ),
+        (
+            &["predict", "--fuel=3", "s"],
+            "call 2 w0 m.e: trap fuel\nend calls 1\n",
+        ),
+        (
+            &["predict", "s", "--fuel", "4"],
+            "call 2 w0 m.e: returned 7\nend calls 1\n",
+        ),
+    ];
+    for (words, begin) in cases {
+        let given = Given {
+            words,
+            ..seq(script, module.as_slice())
+        };
+        let served = serve(&rt, &given)?;
+        expect_fault(&rt, &served, 0, "");
+        assert!(rt;
+            served.written.as_slice().starts_with(begin.as_bytes()),
+            "{begin}"
+        );
+    }
+    // Another seed puts the stack elsewhere.
+    let given = Given {
+        words: &["seq", "s", "--seed", "1"],
+        ..seq(script, module.as_slice())
+    };
+    let served = serve(&rt, &given)?;
+    let report = std::str::from_utf8(served.written.as_slice())?;
+    assert!(rt;
+        report.starts_with("call 2 w0 m.e at 0 under 3: returned 7\nmap 1 stack w0 region ")
+    );
+    assert!(rt; !report.contains(" region 47222 "));
+    Ok(())
+}
+
+#[test]
 fn scripts_and_modules_that_are_refused(rt: HostRuntime) -> Result<(), Fail> {
-    let adder = object(&rt, &SUM, b"sum")?;
+    let adder = function(rt.alloc(), &SUM, b"sum")?;
     let sum = adder.as_slice();
-    let other = object(&rt, &SUM, b"sun")?;
-    let mut longer = adder.clone()?;
-    longer.push(0)?;
-    let long = longer.as_slice();
+    let other = function(rt.alloc(), &SUM, b"sun")?;
+    // The table of sections ends past the file's end.
+    let mut cut = adder.clone()?;
+    cut.truncate(479);
+    let short = cut.as_slice();
     // As many bytes as a file may have.
     let spaces = vec![in rt.alloc(); b' '; 1_048_576]?;
     let call: &[u8] = b"load m f\ncall 0 m.sum 2 3\n";
@@ -506,9 +551,9 @@ fn scripts_and_modules_that_are_refused(rt: HostRuntime) -> Result<(), Fail> {
         (b"", sum, 2, "adelie: script", 1),
         (loads, sum, 2, "adelie: script", 1),
         (spaces.as_slice(), sum, 2, "adelie: script", 1),
-        (call, long, 3, "adelie: module f: form", 2),
-        (call, b"", 3, "adelie: module f: form", 2),
-        (none, long, 3, "adelie: module f: form", 2),
+        (call, short, 3, "adelie: module f: object 7", 2),
+        (call, b"", 3, "adelie: module f: object 1", 2),
+        (none, short, 3, "adelie: module f: object 7", 2),
         (none, sum, 3, "adelie: line 2: no export", 2),
         (later, sum, 3, "adelie: line 4: no export", 2),
         (call, other.as_slice(), 3, "adelie: line 2: no export", 2),
@@ -522,13 +567,14 @@ fn scripts_and_modules_that_are_refused(rt: HostRuntime) -> Result<(), Fail> {
 
 #[test]
 fn files_that_are_not_read(rt: HostRuntime) -> Result<(), Fail> {
-    let adder = object(&rt, &SUM, b"sum")?;
+    let adder = function(rt.alloc(), &SUM, b"sum")?;
     let sum = adder.as_slice();
     let call: &[u8] = b"load m f\ncall 0 m.sum 2 3\n";
     let absent: &[u8] = b"load m g\ncall 0 m.sum 2 3\n";
     let spaces = vec![in rt.alloc(); b' '; 1_048_577]?;
     let long = spaces.as_slice();
-    let cases: [(&str, &[u8], &[u8], &[u64], &str, usize); 6] = [
+    let cases: [(&str, &[u8], &[u8], &[u64], &str, usize); 7] = [
+        ("-", call, sum, &[], "adelie: read -", 1),
         ("s", call, sum, &[1], "adelie: read s", 1),
         ("s", call, sum, &[2], "adelie: read f", 2),
         ("t", call, sum, &[], "adelie: read t", 1),
@@ -550,7 +596,7 @@ fn files_that_are_not_read(rt: HostRuntime) -> Result<(), Fail> {
 
 #[test]
 fn writes_that_fail(rt: HostRuntime) -> Result<(), Fail> {
-    let module = object(&rt, &WHEREAMI, b"whereami")?;
+    let module = function(rt.alloc(), &WHEREAMI, b"whereami")?;
     let script = b"load m f\ncall 0 m.whereami\nmove m\ncall 0 m.whereami\n";
     let cases: [(u64, &[u64], usize, u8, &str); 4] = [
         (16, &[1], 0, 5, "adelie: write"),

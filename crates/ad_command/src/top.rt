@@ -1,25 +1,27 @@
 //! The command, from its words to what is written.
 
-ghost use Rattle.std.specs.Prelude.{◌≡◌, ◌≢◌, ◌⊎◌, ℕ, List, [], length, map, string_bytes, Some, Result, Ok, Err, IfOk, IfErr, MatchResult};
+ghost use Rattle.std.specs.Prelude.{◌≡◌, ◌≢◌, ◌⊎◌, ℕ, List, [], length, map, string_bytes, Some, None, Result, Ok, Err, IfOk, IfErr, MatchResult};
 ghost use Rattle.ad_base.specs.Book.{contents_of};
+ghost use Rattle.ad_base.specs.Count.{Rose};
 ghost use Rattle.ad_command.specs.Chain.{AreTold, Gives, Serves};
-ghost use Rattle.ad_command.specs.Command.{Job, Lines, Predicted, Work, command, job_in};
-ghost use Rattle.ad_command.specs.Ending.{Answers, AsksFirstOf, IsDone, Leaves, Writes, fault_of};
+ghost use Rattle.ad_command.specs.Command.{Job, Lines, Predicted, Work, command, job_in, work_of};
+ghost use Rattle.ad_command.specs.Ending.{Answers, AskedLast, AsksFirstOf, IsDone, Leaves, LeavesDone, Writes, fault_of};
 ghost use Rattle.ad_lines.specs.declared.ready.ReadyStep.{ReadyStep};
 ghost use Rattle.ad_lines.specs.LineLaws.{run_of_seed};
 ghost use Rattle.ad_lines.specs.Opening.{opening_drawn, AreLoaded};
 ghost use Rattle.ad_lines.specs.Ready.{ready_steps};
 ghost use Rattle.ad_script.specs.Script.{IsInRange};
 ghost use Rattle.ad_command.specs.Trouble.{status_of};
+ghost use Rattle.ad_words.specs.Words.{Show};
 
-use crate::load::{Loaded, load_images, script_of};
+use crate::load::{Loaded, load_images, script_of, shown_image};
 use crate::trouble::{Trouble, exit_status};
-use crate::words::{Command, read_words};
 use ad_base::{Book, Failed, Files, Image, Moved, OutOfMemory, Row, Sink, write_all};
 use ad_lines::{Finished, LineRun, Missing, ReadyStep, ready_steps};
 use ad_predict::predict;
-use ad_report::report;
+use ad_report::{listing, report};
 use ad_script::Script;
+use ad_words::{Command, read_words};
 use std::alloc::Global;
 
 /// What came of a command.
@@ -29,7 +31,7 @@ pub struct Ended {
     pub status: u8,
     /// Why the command did not do what was asked; `None` exactly at status 0.
     pub fault: Option<Trouble>,
-    /// The books of the modules. Books, moves and ledger are empty but at the statuses 0 and 5.
+    /// The books of the modules. Books, moves and ledger are empty but where lines were run, at the statuses 0 and 5.
     pub books: Vec<Book>,
     /// What came of the moves, in the order of the script.
     pub moves: Vec<Moved>,
@@ -41,7 +43,7 @@ pub struct Ended {
 /// writes to. The allocator is that of `rt`.
 ///
 /// The statuses are those of the faults: 1 where the words aren't of the grammar, 2 where the script has another form,
-/// 3 where a module has, or where a line calls an export that its module hasn't, 4 where a file couldn't be read or has
+/// 3 where a module isn't linked, or where a line calls an export that its module hasn't, 4 where a file couldn't be read or has
 /// more than 1,048,576 bytes, 5 where the report couldn't be written, 6 where memory was wanting.
 pub fn top_still<R: AllocGlobal, F: Files, K: Sink>(
     rt: &R,
@@ -59,6 +61,14 @@ pub fn top_still<R: AllocGlobal, F: Files, K: Sink>(
     // The sink is used for nothing but the report.
     ensures unused { (t : Trouble) → result.fault ≡ Some t → t ≢ Trouble.Write → out.new ≡ out.old }
 
+    // A failed read is told where the count of faults rose, and of the file that was asked for last. So is a file that is
+    // too large.
+    ensures read { (name : List ℕ) → result.fault ≡ Some (Trouble.Read name)
+        → Rose (F.outside files.old).faults (F.outside files.new).faults × AskedLast (F.outside files.old).asked (F.outside files.new).asked name }
+    ensures large { (name : List ℕ) → result.fault ≡ Some (Trouble.TooLarge name)
+        → AskedLast (F.outside files.old).asked (F.outside files.new).asked name }
+    ensures no_fault { ((name : List ℕ) → result.fault ≢ Some (Trouble.Read name)) → (F.outside files.new).faults ≡ (F.outside files.old).faults }
+
     // Where the files that it asks for are told, the fault is that of the chain over their bytes, but for want of memory,
     // for a failed read of one of them, and for a failed write of the report; and the names asked for are the chain's, or the first of them.
     ensures told { (bytes : List ℕ → List ℕ) (names : List (List ℕ)) (due : Result Work Trouble)
@@ -67,6 +77,12 @@ pub fn top_still<R: AllocGlobal, F: Files, K: Sink>(
     ensures asks { (bytes : List ℕ → List ℕ) (names : List (List ℕ)) (due : Result Work Trouble)
         → Gives bytes (command (map string_bytes words.now)) names due → AreTold (F.outside files.old).told bytes names
         → AsksFirstOf (F.outside files.old).asked (F.outside files.new).asked names }
+
+    // Where they are told and work was done, it is that of the chain over their bytes.
+    ensures work { (bytes : List ℕ → List ℕ) (names : List (List ℕ)) (due : Work)
+        → Gives bytes (command (map string_bytes words.now)) names (Ok due) → AreTold (F.outside files.old).told bytes names
+        → (result.fault ≡ None) ⊎ (result.fault ≡ Some Trouble.Write)
+        → LeavesDone (K.output out.old) (K.output out.new) result due }
 {
     match prepare(rt.alloc(), words, files) {
         Ok(prepared) => written(prepared, out),
@@ -132,6 +148,7 @@ fn prepare<F: Files>(alloc: Global, words: &[String], files: &mut F) -> Result<P
     match command {
         Command::Seq { script, seed, fuel } => seq(alloc, files, script, seed, fuel),
         Command::Predict { script, seed, fuel } => predicted(alloc, files, script, seed, fuel),
+        Command::Show { file } => shown(alloc, files, file),
     }
 }
 
@@ -167,6 +184,31 @@ fn predicted<F: Files>(
     predict_job(alloc, &script, &loaded, fuel)
 }
 
+/// Serves the chain of a file that is shown, and makes the listing.
+fn shown<F: Files>(alloc: Global, files: &mut F, file: &str) -> Result<Prepared, Trouble>
+    ensures { (end : Result Work Trouble) × Serves (F.outside files.old) (F.outside files.new) (work_of (Show file.now)) end
+        × MatchResult result (λ p. (work : Work) × (end ≡ Ok work) × IsDone work (record { books = map contents_of p.books.items; moves = p.moves.items; rows = p.ledger.items; text = p.text.items })) (λ t. end ≡ Err t) }
+{
+    let image = shown_image(alloc, files, file)?;
+    let text = listing(alloc, &image)?;
+    Ok(text_alone(alloc, text))
+}
+
+/// A text, where nothing was run.
+fn text_alone(alloc: Global, text: Vec<u8>) -> Prepared
+    ensures books { result.books.items ≡ [] }
+    ensures moves { result.moves.items ≡ [] }
+    ensures ledger { result.ledger.items ≡ [] }
+    ensures text { result.text.items ≡ text.items }
+{
+    Prepared {
+        books: Vec::new(alloc),
+        moves: Vec::new(alloc),
+        ledger: Vec::new(alloc),
+        text,
+    }
+}
+
 /// Predicts the calls of a script, if each finds its export. Nothing is run.
 fn predict_job(
     alloc: Global,
@@ -184,12 +226,7 @@ fn predict_job(
 {
     let steps = ready(alloc, &loaded.images, script)?;
     let text = predict(alloc, script, &loaded.images, &steps, fuel)?;
-    Ok(Prepared {
-        books: Vec::new(alloc),
-        moves: Vec::new(alloc),
-        ledger: Vec::new(alloc),
-        text,
-    })
+    Ok(text_alone(alloc, text))
 }
 
 /// Runs the lines of a script, if each call finds its export, and makes the report.

@@ -1,10 +1,14 @@
 //! Why a command did not do what was asked.
 
-ghost use Rattle.std.specs.Prelude.{◌≡◌, ◌++◌, ℕ, List, Some, IsUtf8, codes};
-ghost use Rattle.ad_command.specs.Trouble.{status_of, fault_text};
+ghost use Rattle.std.specs.Prelude.{◌≡◌, ◌++◌, ◌⊎◌, ℕ, List, Some, IsUtf8, codes};
+ghost use Rattle.std.specs.Fmt.{decimal};
+ghost use Rattle.ad_link.specs.Reason.{stage_text};
+ghost use Rattle.ad_link.specs.declared.reason.Stage.{Stage};
+ghost use Rattle.ad_command.specs.Trouble.{fault_text, refused_module, status_of};
 
 use ad_base::{Name, OutOfMemory};
-use std::alloc::AllocFailed;
+use ad_link::{LinkRefusal, Stage};
+use std::alloc::{AllocFailed, Global};
 use std::error::Error;
 use std::fmt;
 use std::io::ErrorKind;
@@ -16,14 +20,24 @@ pub enum Trouble {
     Usage,
     /// The script has another form.
     BadScript,
-    /// The module of this file has another form.
-    Form { file: Name },
+    /// The link refuses this file: at this stage, for the reason of this number in the stage's list, counted from 1.
+    Module {
+        file: Name,
+        stage: Stage,
+        number: u64,
+    },
     /// This line of the script calls an export that its module hasn't.
-    NoExport { line: u64 },
+    NoExport {
+        line: u64,
+    },
     /// The file of this name couldn't be read.
-    Read { name: Name },
+    Read {
+        name: Name,
+    },
     /// The file of this name has too many bytes.
-    TooLarge { name: Name },
+    TooLarge {
+        name: Name,
+    },
     /// The report couldn't be written.
     Write,
     /// There was no memory.
@@ -38,7 +52,7 @@ impl Trouble {
         match self {
             Trouble::Usage => 1,
             Trouble::BadScript => 2,
-            Trouble::Form { .. } | Trouble::NoExport { .. } => 3,
+            Trouble::Module { .. } | Trouble::NoExport { .. } => 3,
             Trouble::Read { .. } | Trouble::TooLarge { .. } => 4,
             Trouble::Write => 5,
             Trouble::Memory => 6,
@@ -53,6 +67,24 @@ pub fn exit_status(fault: &Option<Trouble>) -> u8
     match fault {
         None => 0,
         Some(trouble) => trouble.status(),
+    }
+}
+
+/// The fault of the file of this name, which a link refuses so. It is want of memory where the link wanted it, or where there
+/// is none for the name.
+pub fn refused_module(alloc: Global, name: &str, refusal: &LinkRefusal) -> Trouble
+    ensures { (result ≡ refused_module name.now refusal.now) ⊎ (result ≡ Trouble.Memory) }
+{
+    let Ok(file) = Name::of(alloc, name.as_bytes()) else {
+        return Trouble::Memory;
+    };
+    match refusal.reason() {
+        Some(reason) => Trouble::Module {
+            file,
+            stage: reason.stage,
+            number: reason.number,
+        },
+        None => Trouble::Memory,
     }
 }
 
@@ -99,7 +131,11 @@ impl fmt::Display for Trouble {
         match self {
             Trouble::Usage => write!(f, "adelie: usage"),
             Trouble::BadScript => write!(f, "adelie: script"),
-            Trouble::Form { file } => write!(f, "adelie: module {file}: form"),
+            Trouble::Module {
+                file,
+                stage,
+                number,
+            } => write!(f, "adelie: module {file}: {stage} {number}"),
             Trouble::NoExport { line } => write!(f, "adelie: line {line}: no export"),
             Trouble::Read { name } => write!(f, "adelie: read {name}"),
             Trouble::TooLarge { name } => write!(f, "adelie: read {name}: too large"),
@@ -113,8 +149,8 @@ impl Error for Trouble {}
 
 /// A name that is UTF-8 is printed as it is.
 pub fn law_names_are_printed()
-    ensures form { (name : List ℕ) → IsUtf8 name
-        → fault_text (Trouble.Form name) ≡ codes "adelie: module " ++ name ++ codes ": form" }
+    ensures refused { (name : List ℕ) (stage : Stage) (number : ℕ) → IsUtf8 name
+        → fault_text (Trouble.Module name stage number) ≡ codes "adelie: module " ++ name ++ codes ": " ++ stage_text stage ++ codes " " ++ decimal number }
     ensures read { (name : List ℕ) → IsUtf8 name
         → fault_text (Trouble.Read name) ≡ codes "adelie: read " ++ name }
     ensures too_large { (name : List ℕ) → IsUtf8 name

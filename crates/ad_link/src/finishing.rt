@@ -1,10 +1,12 @@
 //! The second half of a link: the image, once the immovable part has a place.
 
-ghost use Rattle.std.specs.Prelude.{◌≡◌, ◌⊎◌, IfErr, IfOk};
-ghost use Rattle.ad_base.specs.Image.{IsWhole};
+ghost use Rattle.std.specs.Prelude.{◌≡◌, ◌<◌, ◌^◌, ◌⊎◌, All, IfErr, IfOk};
+ghost use Rattle.ad_base.specs.Image.{movable_pages, IsWhole};
 ghost use Rattle.ad_base.specs.Place.{IsModulePlace};
 ghost use Rattle.ad_reloc.specs.Image.{IsImage};
+ghost use Rattle.ad_base.specs.declared.image.Export.{Export};
 ghost use Rattle.ad_link.specs.Plan.{fixed_pages, IsRefusedAt};
+ghost use Rattle.ad_link.specs.Plan as plan;
 ghost use Rattle.ad_link.specs.declared.refusal.LinkRefusal.TheVariants.{OutOfMemory as MemoryWanted};
 
 use crate::planning::LinkPlan;
@@ -21,6 +23,9 @@ impl LinkPlan {
         requires pages { fixed.pages ≡ fixed_pages self.layout.sizes }
         ensures image { IfOk result (λ i. IsImage self.object self.layout self.tables fixed i) }
         ensures whole { IfOk result IsWhole }
+        ensures fixed { IfOk result (λ i. i.fixed ≡ fixed) }
+        ensures movable_pages { IfOk result (λ i. movable_pages i ≡ plan.movable_pages self.layout.sizes) }
+        ensures exports { IfOk result (λ i. All (λ (x : Export). x.offset < 2 ^ 64) i.exports) }
         ensures refused { IfErr result (λ r. (r ≡ MemoryWanted) ⊎ IsRefusedAt fixed self r) }
     {
         match relocate(alloc, &self.object, &self.layout, &self.tables, fixed) {

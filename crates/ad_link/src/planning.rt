@@ -1,11 +1,11 @@
 //! The first half of a link: all that needs no place.
 
-ghost use Rattle.std.specs.Prelude.{◌≡◌, ◌⊎◌, IfErr, IfOk};
+ghost use Rattle.std.specs.Prelude.{◌≡◌, ◌≤◌, ◌⊎◌, IfErr, IfOk};
 ghost use Rattle.ad_link.specs.Plan.{fixed_pages, movable_pages, IsPlan, IsRefused};
 ghost use Rattle.ad_link.specs.declared.refusal.LinkRefusal.TheVariants.{OutOfMemory as MemoryWanted};
 
 use crate::refusal::LinkRefusal;
-use ad_base::{LOCAL_PAGES, STUB_PAGES, TABLE_PAGES};
+use ad_base::{LOCAL_PAGES, PART_PAGES, STUB_PAGES, TABLE_PAGES};
 use ad_elf::{ElfRefusal, Object, read_object};
 use ad_parts::{Layout, PartRefusal, split};
 use ad_tables::{TableRefusal, TableSet, tables};
@@ -61,7 +61,9 @@ pub fn plan(alloc: Global, bytes: &[u8]) -> Result<LinkPlan, LinkRefusal>
 impl LinkPlan {
     /// The pages of the movable part.
     pub fn movable_pages(&self) -> u16
-        ensures { result ≡ movable_pages self.now.layout.sizes }
+        ensures pages { result ≡ movable_pages self.now.layout.sizes }
+        ensures some { 1 ≤ result }
+        ensures few { result ≤ PART_PAGES }
     {
         let sizes = &self.layout.sizes;
         sizes.text_pages
@@ -74,7 +76,9 @@ impl LinkPlan {
 
     /// The pages of the immovable part.
     pub fn fixed_pages(&self) -> u16
-        ensures { result ≡ fixed_pages self.now.layout.sizes }
+        ensures pages { result ≡ fixed_pages self.now.layout.sizes }
+        ensures some { 1 ≤ result }
+        ensures few { result ≤ PART_PAGES }
     {
         let sizes = &self.layout.sizes;
         sizes.fixed_text_pages

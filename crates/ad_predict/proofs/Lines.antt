@@ -1,12 +1,10 @@
 -- What replies print.
-use Rattle.std.proofs.Common.{◌≡◌, ℕ, ◌+◌, ◌<◌, ◌≤◌, List, [], ◌∷◌, ◌++◌, ◌∙◌, length, take, drop, get_or, ap, sym, refl, add-one, append_assoc}
-use Rattle.std.specs.List.{enumerate_from, flat_map}
+use Rattle.std.proofs.Common.{◌≡◌, ℕ, ◌+◌, ◌<◌, List, [], ◌∷◌, ◌++◌, ◌∙◌, length, take, drop, get_or, ap, sym, refl, add-one, append_assoc}
 use Rattle.std.proofs.Math.Seq.{take-suc}
 use Rattle.ad_lines.proofs.Lists.{drop-next}
 use Rattle.std.specs.Prelude.{codes}
 use Rattle.std.specs.Fmt.{decimal}
 use Rattle.std.proofs.lemmas.List.{append-nil, take-append-drop}
-use Rattle.std.proofs.Math.ListN.{drop_of_length-le}
 use Rattle.ad_report.specs.Report.{notes_text}
 use Rattle.ad_symbolic.specs.declared.reply.SymReply.{SymReply}
 use Rattle.ad_symbolic.specs.Replay.{Answer, Clear, Keeps, Lost, NotClear}
@@ -33,19 +31,6 @@ pub line-appended : (text call line w worker space name dot export colon end not
     → (((((((text ++ (call ++ (line ++ (w ++ (worker ++ space))))) ++ name) ++ dot) ++ export) ++ colon) ++ end) ++ notes) ++ lf
     ≡ text ++ (call ++ line ++ w ++ worker ++ space ++ name ++ dot ++ export ++ colon ++ (end ++ notes) ++ lf)
 line-appended text call line w worker space name dot export colon end notes lf = simp append_assoc
-
--- one line more of those of numbered items
-pub more-lines : {A : Type 0} (f : ℕ × A → List ℕ) (text new all : List ℕ) (xs : List A) (i : ℕ) (x : A) → i < length xs → x ≡ get_or xs i x → new ≡ text ++ f (i, x)
-    → text ++ flat_map f (enumerate_from i (drop i xs)) ≡ all → new ++ flat_map f (enumerate_from (i + 1) (drop (i + 1) xs)) ≡ all
-more-lines f text new all xs i x within is made before =
-    let rest = flat_map f (enumerate_from (i + 1) (drop (i + 1) xs)) in
-    ap (λ t. t ++ rest) made ∙ append_assoc text (f (i, x)) rest
-    ∙ ap (λ ys. text ++ flat_map f (enumerate_from i ys)) (sym (drop-next xs i x within is)) ∙ before
-
--- no line is left
-pub no-more-lines : {A : Type 0} (f : ℕ × A → List ℕ) (text all : List ℕ) (xs : List A) (i : ℕ) → length xs ≤ i → text ++ flat_map f (enumerate_from i (drop i xs)) ≡ all → text ≡ all
-no-more-lines f text all xs i end before =
-    sym (append-nil text) ∙ ap (λ ys. text ++ flat_map f (enumerate_from i ys)) (sym (drop_of_length-le xs end)) ∙ before
 
 -- a list by an item of it, those before and those behind
 pub around : {A : Type 0} (xs : List A) (i : ℕ) (x : A) → i < length xs → x ≡ get_or xs i x → take i xs ++ x ∷ drop (i + 1) xs ≡ xs

@@ -6,12 +6,12 @@ ghost use Rattle.ad_lines.specs.Ready.{IsRunnable};
 ghost use Rattle.ad_lines.specs.declared.ready.ReadyStep.{ReadyStep};
 ghost use Rattle.ad_predict.specs.Prediction.{export_name, step_text};
 ghost use Rattle.ad_predict.specs.Private.Asking.{HaveAnswered, opened_module};
-ghost use Rattle.ad_report.specs.Mapping.{module_name};
 ghost use Rattle.ad_symbolic.specs.Reply.{Module};
 
 use crate::line::{Called, call_line};
 use ad_base::{Image, OutOfMemory};
 use ad_lines::ReadyStep;
+use ad_report::module_name;
 use ad_script::Script;
 use ad_symbolic::SymbolicModule;
 use std::alloc::Global;
@@ -66,16 +66,6 @@ pub fn step_line(
             call_line(text, &called, &reply)
         }
         ReadyStep::Move { .. } | ReadyStep::Stack { .. } => Ok(()),
-    }
-}
-
-/// The name of the module of this number, and no byte where none has it.
-fn module_name(script: &Script, number: u64) -> &[u8]
-    ensures { result.now ≡ module_name script.now number }
-{
-    match script.loads.as_slice().get(number as usize) {
-        Some(load) => load.name.bytes(),
-        None => b"",
     }
 }
 

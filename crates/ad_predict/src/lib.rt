@@ -2,8 +2,9 @@
 #![tactic(auto)]
 
 mod ask;
+mod laws;
 mod line;
-mod print;
 mod text;
 
+pub use laws::law_clear_histories;
 pub use text::predict;

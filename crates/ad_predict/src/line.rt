@@ -4,12 +4,11 @@ ghost use Rattle.std.specs.Prelude.{◌≡◌, ◌++◌, ◌∷◌, [], codes, O
 ghost use Rattle.std.specs.Fmt.{decimal};
 ghost use Rattle.ad_predict.specs.Prediction.{call_line};
 ghost use Rattle.ad_predict.specs.Private.Asking.{reply_text};
-ghost use Rattle.ad_report.specs.Report.{notes_text};
 ghost use Rattle.ad_symbolic.specs.Replay.{Answer};
 ghost use Rattle.ad_symbolic.specs.Reply.{reply_of};
 
-use crate::print::print;
-use ad_base::{Notes, OutOfMemory};
+use ad_base::OutOfMemory;
+use ad_report::{notes, print};
 use ad_symbolic::{SymEnd, SymReply};
 
 /// A call in a script.
@@ -55,20 +54,4 @@ fn end(text: &mut Vec<u8>, end: SymEnd) -> Result<(), OutOfMemory>
         SymEnd::Keeps => print(text, "keeps"),
         SymEnd::Lost => print(text, "lost"),
     }
-}
-
-/// Appends the notes of a call.
-fn notes(text: &mut Vec<u8>, notes: &Notes) -> Result<(), OutOfMemory>
-    ensures { OnOk result (text.new.items ≡ text.old.items ++ notes_text notes.now) }
-{
-    let notes = notes.as_slice();
-    if notes.is_empty() {
-        return Ok(());
-    }
-    text.extend_from_slice(b" notes")?;
-    for note in notes {
-        let note = *note;
-        print(text, format_args!(" {note}"))?;
-    }
-    Ok(())
 }

@@ -8,9 +8,9 @@ ghost use Rattle.ad_predict.specs.Prediction.{end_line, is_call, prediction, ste
 ghost use Rattle.ad_predict.specs.Private.Asking.{opened_module};
 
 use crate::ask::{open_modules, step_line};
-use crate::print::print;
 use ad_base::{Image, OutOfMemory};
 use ad_lines::ReadyStep;
+use ad_report::print;
 use ad_script::Script;
 use ad_symbolic::SymbolicModule;
 use std::alloc::Global;

@@ -14,3 +14,10 @@ pub mod Fitted
 pub mod TablesFit
 pub mod FieldsFit
 pub mod Whole
+pub mod OnePair
+pub mod OneWord
+pub mod OneField
+pub mod OneImage
+pub mod SomeWord
+pub mod SomeField
+pub mod SomeImage

@@ -19,7 +19,7 @@ use Rattle.ad_tables.specs.Symbols.{in_part, resolved, service_of, symbol_resolv
 use Rattle.ad_reloc.specs.Private.Small.{AreSmall, IsLow}
 
 -- what a search finds passes its test, and is one of the list
-find_all : {X : Type 0} (P : X → Type 0) (p : X → Bool) (xs : List X) (t : X) → All P xs → find p xs ≡ Some t → P t × (p t ≡ true)
+pub find_all : {X : Type 0} (P : X → Type 0) (p : X → Bool) (xs : List X) (t : X) → All P xs → find p xs ≡ Some t → P t × (p t ≡ true)
 find_all P p [] t all e = cc
 find_all P p (x ∷ xs) t all e =
     elim (cases_Bool (p x)) [
@@ -31,7 +31,7 @@ find_all P p (x ∷ xs) t all e =
     some_same x y e = cc
 
 -- an area ends far below 2^64
-area_small : (z : Sizes) → AreSmall z → (movable : Bool) (g : Group) → area_to z (area_in movable g) < 2 ^ 63
+pub area_small : (z : Sizes) → AreSmall z → (movable : Bool) (g : Group) → area_to z (area_in movable g) < 2 ^ 63
 area_small z h true group.Text = omega (arith, h.text)
 area_small z h true group.ReadOnly = omega (arith, h.text, h.read)
 area_small z h true group.Local = omega (arith, h.text, h.read, h.local)

@@ -25,7 +25,7 @@ mod words;
 
 pub use halves::Halves;
 pub use image::relocate;
-pub use laws::law_halves;
+pub use laws::{law_halves, law_one_answer, law_without_relocations};
 pub use refusal::RelocRefusal;
 pub use row::{Form, Formula, Row};
 pub use words::STUB_BYTES;

@@ -1,2 +1,3 @@
 pub mod AtLine
 pub mod Indices
+pub mod Numbered

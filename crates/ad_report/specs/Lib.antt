@@ -1,3 +1,4 @@
+pub mod Listing
 pub mod Mapping
 pub mod Private
 pub mod Report

@@ -7,7 +7,7 @@ ghost use Rattle.ad_report.specs.Private.Index.{IsIndex};
 
 use crate::index::CallAt;
 use crate::line::at_line;
-use crate::print::print;
+use crate::printing::print;
 use ad_base::{Entry, Notes, OutOfMemory};
 
 /// Appends a line for each call of a history that a line of the script made. The calls are those of the
@@ -56,8 +56,8 @@ fn call_line(
     Ok(())
 }
 
-/// Appends the notes of a call.
-fn notes(text: &mut Vec<u8>, notes: &Notes) -> Result<(), OutOfMemory>
+/// Appends the notes of a call, and nothing where there are none. It fails for want of memory alone.
+pub fn notes(text: &mut Vec<u8>, notes: &Notes) -> Result<(), OutOfMemory>
     ensures { OnOk result (text.new.items ≡ text.old.items ++ notes_text notes.now) }
 {
     let notes = notes.as_slice();

@@ -1,15 +1,20 @@
-//! The text that is printed of a run.
+//! The texts that are printed of a run and of a linked module.
 #![tactic(auto)]
 
 mod calls;
 mod index;
 mod line;
+mod linked;
 mod mappings;
 mod moves;
-mod print;
+mod printing;
 mod script;
 #[cfg(test)]
 mod tests;
 mod text;
 
+pub use calls::notes;
+pub use linked::listing;
+pub use printing::print;
+pub use script::module_name;
 pub use text::report;

@@ -4,7 +4,7 @@ ghost use Rattle.std.specs.Prelude.{◌≡◌, ◌++◌, OnOk};
 ghost use Rattle.std.specs.List.{flat_map};
 ghost use Rattle.ad_report.specs.Mapping.{kind_text, map_line, who_text};
 
-use crate::print::print;
+use crate::printing::print;
 use crate::script::module_name;
 use ad_base::{Kind, OutOfMemory, Row};
 use ad_script::Script;

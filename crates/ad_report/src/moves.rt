@@ -6,7 +6,7 @@ ghost use Rattle.ad_base.specs.Ledger.{is_made};
 ghost use Rattle.ad_report.specs.Report.{move_line, moved_text, moves_at, stack_line, AreMovesInOrder};
 
 use crate::line::at_line;
-use crate::print::print;
+use crate::printing::print;
 use crate::script::module_name;
 use ad_base::{MoveEnd, Moved, OutOfMemory};
 use ad_script::Script;

@@ -11,7 +11,7 @@ use crate::calls::call_lines;
 use crate::index::{CallAt, indices};
 use crate::mappings::map_lines;
 use crate::moves::{made, move_lines, stack_lines};
-use crate::print::print;
+use crate::printing::print;
 use crate::script::module_name;
 use ad_base::{Book, Entry, Moved, OutOfMemory, Row};
 use ad_script::{Script, Step};

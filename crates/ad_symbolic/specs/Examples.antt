@@ -1,13 +1,13 @@
 -- Images, address spaces, calls and outcomes of worked examples.
-use Rattle.std.specs.Prelude.{ℕ, ◌+◌, List, [], ◌∷◌, codes, replicate}
+use Rattle.std.specs.Prelude.{ℕ, ◌+◌, List, [], ◌∷◌, ◌++◌, codes, replicate}
 use Rattle.std.specs.List.{flat_map}
 use Rattle.byteorder.specs.Endian.{little_bytes}
 use Rattle.ad_base.specs.declared.image.Image.{Image}
-use Rattle.ad_base.specs.declared.layout.TheConstants.{INSTRUCTION_BYTES, STUB_PAGES, TABLE_PAGES, WORD_BYTES}
+use Rattle.ad_base.specs.declared.layout.TheConstants.{INSTRUCTION_BYTES, PAGE_BYTES, STUB_PAGES, TABLE_PAGES, WORD_BYTES}
 use Rattle.ad_base.specs.declared.place.Place.{Place}
 use Rattle.ad_base.specs.declared.image.Cell.TheVariants.{Off}
 use Rattle.ad_base.specs.declared.role.Role.TheVariants.{Cells, Code, Stack}
-use Rattle.ad_base.specs.Image.{text_image}
+use Rattle.ad_base.specs.Image.{text_image, zeros}
 use Rattle.ad_base.specs.Layout.{code_rights, constant_rights, data_rights}
 use Rattle.ad_symbolic.specs.AddressSpace.{AddressSpace, cell_bytes, low_bytes, numbers_of, put_at_value, space_of}
 use Rattle.ad_isa.specs.Finish.{Returns}
@@ -50,6 +50,36 @@ sum_words = 0x00b50533 ∷ 0x00008067 ∷ []
 -- jr a0
 abbrev pub jump_words : List ℕ
 jump_words = 0x00050067 ∷ []
+
+-- lui t0, 0x40; jr 16(t0): makes a note of a0
+abbrev pub note_words : List ℕ
+note_words = 0x000402b7 ∷ 0x01028067 ∷ []
+
+-- lui t0, 0x40; jr 48(t0): sends a0 to the device queue
+abbrev pub send_words : List ℕ
+send_words = 0x000402b7 ∷ 0x03028067 ∷ []
+
+-- auipc t0, 4; ld t1, 0(t0); add a0, a0, t1; sd a0, 0(t0); ret: adds a0 to a word of the data four pages further on, and
+-- returns the sum
+abbrev pub count_words : List ℕ
+count_words = 0x00004297 ∷ 0x0002b303 ∷ 0x00650533 ∷ 0x00a2b023 ∷ 0x00008067 ∷ []
+
+-- the module of all these and of a page of data, zero at first; its immovable part lies at a place
+abbrev pub counting_image : Place → Image
+counting_image fixed = record (image_of (note_words ++ send_words ++ count_words ++ sum_words) fixed) { data_pages = 1; writable = zeros PAGE_BYTES }
+
+-- calls that make a note of a number, send it, add it to the word of the data, and give the sum of two
+abbrev pub asked_to_note : ℕ → Asked
+asked_to_note n = record { offset = 0; args = n ∷ [] }
+
+abbrev pub asked_to_send : ℕ → Asked
+asked_to_send n = record { offset = 8; args = n ∷ [] }
+
+abbrev pub asked_to_count : ℕ → Asked
+asked_to_count n = record { offset = 16; args = n ∷ [] }
+
+abbrev pub asked_for_sum : ℕ → ℕ → Asked
+asked_for_sum a b = record { offset = 36; args = a ∷ b ∷ [] }
 
 -- a place of such an immovable part, at 7715426304
 abbrev pub fixed_place : Place

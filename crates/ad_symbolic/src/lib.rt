@@ -17,6 +17,7 @@ mod outcome;
 mod pages;
 mod piece;
 mod reach;
+mod replay_laws;
 mod reply;
 mod run;
 mod service;
@@ -29,6 +30,7 @@ pub use laws::{
     law_worked_fetches, law_worked_jumps, law_worked_keeps, law_worked_replays, law_worked_values,
 };
 pub use module::SymbolicModule;
+pub use replay_laws::{law_lost, law_worked_histories};
 pub use reply::{SymEnd, SymReply};
 pub use value::{Part, Reason, Value};
 

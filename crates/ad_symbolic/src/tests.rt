@@ -4,6 +4,10 @@
 ghost use Rattle.std.specs.Prelude.{◌≡◌, ◌≤◌, ◌*◌, IfOk, length};
 ghost use Rattle.ad_base.specs.Image.{IsWhole};
 
+mod accesses;
+mod comparisons;
+mod operations;
+
 use crate::{SymEnd, SymbolicModule};
 use ad_base::{Args, End, Export, Image, Name, OutOfMemory, PAGE_BYTES, Place, Sequence};
 use std::alloc::Global;
@@ -22,7 +26,7 @@ const FIXED: Place = Place {
 const RETURN: u32 = 0x0000_8067;
 
 /// So many pages of zero bytes, behind these words.
-fn pages(alloc: Global, words: &[u32; 6], pages: usize) -> Result<Vec<u8>, OutOfMemory>
+fn pages(alloc: Global, words: &[u32], pages: usize) -> Result<Vec<u8>, OutOfMemory>
     requires { pages ≤ 2 }
     ensures { IfOk result (λ code. length code.items ≡ pages * PAGE_BYTES) }
 {
@@ -35,7 +39,7 @@ fn pages(alloc: Global, words: &[u32; 6], pages: usize) -> Result<Vec<u8>, OutOf
 }
 
 /// A module of these words and a page of data, which is the fifth page of the movable part.
-fn image(alloc: Global, words: &[u32; 6]) -> Result<Image, OutOfMemory>
+fn image(alloc: Global, words: &[u32]) -> Result<Image, OutOfMemory>
     ensures whole { IfOk result IsWhole }
     ensures exports { IfOk result (λ i. length i.exports ≡ 1) }
 {
@@ -50,12 +54,12 @@ fn image(alloc: Global, words: &[u32; 6]) -> Result<Image, OutOfMemory>
         data_pages: 1,
         code: Sequence::of(pages(alloc, words, 2)?),
         cells: Sequence::of(Vec::new(alloc)),
-        writable: Sequence::of(pages(alloc, &[0; 6], 1)?),
+        writable: Sequence::of(pages(alloc, &[], 1)?),
         table: Sequence::of(Vec::new(alloc)),
         fixed_text_pages: 0,
         fixed_read_pages: 0,
         fixed_data_pages: 0,
-        fixed_code: Sequence::of(pages(alloc, &[0; 6], 1)?),
+        fixed_code: Sequence::of(pages(alloc, &[], 1)?),
         fixed_data: Sequence::of(Vec::new(alloc)),
         fixed: FIXED,
         exports: Sequence::of(exports),
@@ -71,6 +75,16 @@ fn end_of(module: &mut SymbolicModule, a0: u64, a1: u64) -> SymEnd
     args.push(a0);
     args.push(a1);
     module.call(0, &args, 100).end
+}
+
+/// A case of a table: the words of a module, what a0 holds at first, and what is said of the call.
+type Case = ([u32; 8], u64, SymEnd);
+
+/// What is said of a call of a module of these words, with this argument.
+fn told(alloc: Global, words: &[u32; 8], a0: u64) -> Result<SymEnd, OutOfMemory> {
+    let image = image(alloc, words)?;
+    let mut module = SymbolicModule::new(alloc, &image)?;
+    Ok(end_of(&mut module, a0, 0))
 }
 
 /// What is said of three calls of a module of these words, with 5, with 2 and 3, and with 5.

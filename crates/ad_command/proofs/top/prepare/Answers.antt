@@ -1,8 +1,8 @@
 use Rattle.std.proofs.Common.{map, string_bytes, Some, Err, refl, ap, sym, ◌∙◌}
 use Rattle.ad_base.specs.Book.{contents_of}
 use Rattle.ad_command.specs.Command.{Lines, Predicted}
-use Rattle.ad_command.specs.Private.Seen.{command_seen}
-use Rattle.ad_command.specs.Words.{Predict, Seq}
+use Rattle.ad_words.specs.Private.Seen.{command_seen}
+use Rattle.ad_words.specs.Words.{Predict, Seq, Show}
 use Rattle.ad_command.specs.declared.top.Prepared.{Prepared}
 use Rattle.ad_command.specs.declared.trouble.Trouble.TheVariants.{Usage}
 use Rattle.ad_command.proofs.Commands.{command-none, command-some, work-ran}
@@ -28,3 +28,9 @@ returns-in-Predict g c =
     let ran = c.predicted.ensures in
     let last = work-ran Predicted (λ (p : Prepared). record { books = map contents_of p.books.items; moves = p.moves.items; rows = p.ledger.items; text = p.text.items }) old new k.script.now k.seed k.fuel c.predicted.result ran.0 ran.1 ran.2 in
     (last.0, command-some old new (map string_bytes c.args.words.now) (Predict k.script.now k.seed k.fuel) last.0 (ap (λ x. Some (command_seen x)) (sym k.is) ∙ c.in-Some.ensures) last.1, last.2)
+
+pub returns-in-Show : goal.returns-in-Show
+returns-in-Show g c =
+    let k = c.in-Show in
+    let shown = c.shown.ensures in
+    (shown.0, command-some (g.F.Files.outside c.args.files.now) (g.F.Files.outside c.shown.new.files) (map string_bytes c.args.words.now) (Show k.file.now) shown.0 (ap (λ x. Some (command_seen x)) (sym k.is) ∙ c.in-Some.ensures) shown.1, shown.2)

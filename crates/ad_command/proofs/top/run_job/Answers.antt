@@ -1,10 +1,11 @@
-use Rattle.std.proofs.Common.{[], map, ◌∙◌, ap, sym, subst}
+use Rattle.std.proofs.Common.{[], map, ◌∙◌, ap, sym, subst, arith}
 use Rattle.ad_base.specs.Book.{contents_of}
 use Rattle.ad_lines.specs.Ready.{ready_steps}
 use Rattle.ad_report.specs.Report.{AreMovesInOrder, report}
 use Rattle.ad_command.specs.Command.{Job}
 use Rattle.ad_command.specs.Ending.{Ending}
 use Rattle.ad_command.proofs.Done.{is-run}
+use Rattle.ad_command.proofs.Jobs.{are-steps}
 use Rattle.ad_command.proofs.top.run_job.Goals as goal
 
 pub report-requires : goal.report-requires
@@ -22,4 +23,5 @@ returns-clause-done c =
     let o : Ending = record { books = map contents_of end.finished.books.items; moves = end.finished.moves.items; rows = end.finished.rows.items; text = c.in_ok-text.text.items } in
     let run = is-run j o c.requires.range c.requires.loaded c.requires.each c.deref.ensures.value c.deref-2.ensures.value c.in_ok-steps.ensures.ready end.ensures.books end.ensures.moves end.ensures.rows in
     let text = c.in_ok-text.ensures ∙ (λ k. report j.script (map contents_of (c.deref-3.ensures.value k)) (c.deref-4.ensures.value k) (c.deref-5.ensures.value k)) in
-    (j.steps, ap (λ is. ready_steps is j.script.steps) (sym c.deref.ensures.value) ∙ c.in_ok-steps.ensures.ready, (run.line, run.sound, text))
+    let ready = ap (λ is. ready_steps is j.script.steps) (sym c.deref.ensures.value) ∙ c.in_ok-steps.ensures.ready in
+    (j.steps, ready, (record { loaded = c.requires.loaded; steps = are-steps j.images j.script j.steps c.requires.range (omega (arith, c.requires.each)) ready }, run.line, run.sound, text))

@@ -3,7 +3,8 @@ use Rattle.std.proofs.lemmas.List.{length-take-le}
 use Rattle.ad_predict.specs.Prediction.{step_text}
 use Rattle.ad_predict.specs.Private.Asking.{HaveAnswered}
 use Rattle.ad_predict.proofs.Answered.{none-answered}
-use Rattle.ad_predict.proofs.Lines.{around, more-lines, no-more-lines, take-next}
+use Rattle.ad_predict.proofs.Lines.{around, take-next}
+use Rattle.ad_report.proofs.Numbered.{more-lines, no-more-lines}
 use Rattle.ad_predict.proofs.text.step_lines.Goals as goal
 
 pub loop-step-init : goal.loop-step-init

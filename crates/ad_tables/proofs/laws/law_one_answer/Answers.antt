@@ -1,9 +1,9 @@
-use Rattle.std.proofs.Common.{◌≡◌, Some, None, sym, ◌∙◌}
+use Rattle.std.proofs.Common.{◌≡◌, ◌⊎◌, inl, inr, Option, Some, None, refl, sym, ◌∙◌}
 use Rattle.ad_elf.specs.declared.object.Object.{Object}
 use Rattle.ad_parts.specs.declared.layout.Layout.{Layout}
 use Rattle.ad_tables.specs.declared.refusal.TableRefusal.{TableRefusal}
 use Rattle.ad_tables.specs.declared.table_set.TableSet.{TableSet}
-use Rattle.ad_tables.specs.Tables.{AreTables, IsRefused}
+use Rattle.ad_tables.specs.Tables.{AreTables, IsRefused, first_row, fixed_symbols, local_symbols}
 use Rattle.ad_tables.proofs.laws.law_one_answer.Goals as goal
 
 one_set : (o : Object) (l : Layout) (t u : TableSet) → AreTables o l t → AreTables o l u → t ≡ u
@@ -23,5 +23,14 @@ apart : (o : Object) (l : Layout) (t : TableSet) (r : TableRefusal) → AreTable
 unfolding IsRefused
 apart o l t r a b = none_some r (sym a.no_row ∙ b)
 
+-- by the first row, if there is one
+by_row : (o : Object) (l : Layout) (x : Option TableRefusal) → first_row o l ≡ x → ((t : TableSet) × AreTables o l t) ⊎ ((r : TableRefusal) × IsRefused o l r)
+unfolding IsRefused
+by_row o l None none = inl (record { local = local_symbols o l o.relas; fixed = fixed_symbols o l o.relas }, record { no_row = none; local_found = refl; fixed_found = refl })
+by_row o l (Some r) row = inr (r, row)
+
+some : (o : Object) (l : Layout) → ((t : TableSet) × AreTables o l t) ⊎ ((r : TableRefusal) × IsRefused o l r)
+some o l = by_row o l (first_row o l) refl
+
 pub returns : goal.returns
-returns c = record { one_set = one_set; one_refusal = one_refusal; apart = apart }
+returns c = record { one_set = one_set; one_refusal = one_refusal; apart = apart; some = some }

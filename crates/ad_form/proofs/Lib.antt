@@ -1,4 +1,0 @@
-pub mod Appends
-pub mod File
-pub mod FormImage
-pub mod OneModule

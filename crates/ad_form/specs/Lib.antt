@@ -1,2 +1,0 @@
-pub mod FormImage
-pub mod Object

@@ -1,0 +1,17 @@
+pub mod Allowed
+pub mod Changed
+pub mod Closing
+pub mod DrawLaws
+pub mod Ended
+pub mod Frames
+pub mod HeldLaws
+pub mod Lists
+pub mod Opened
+pub mod Openings
+pub mod SeatLaws
+pub mod Seats
+pub mod StepLaws
+pub mod Totals
+pub mod TurnLaws
+pub mod Worked
+pub mod Writes

@@ -1,0 +1,10 @@
+pub mod Laws
+pub mod Lending
+pub mod Merged
+pub mod Names
+pub mod Private
+pub mod Rule
+pub mod Seen
+pub mod Steps
+pub mod Turns
+pub mod Worked

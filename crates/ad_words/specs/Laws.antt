@@ -1,0 +1,23 @@
+-- What the grammar says of numbers, of operands and of the two forms of an option.
+use Rattle.std.specs.Prelude.{◌≡◌, ◌≤◌, ◌<◌, ◌^◌, ℕ, List, [], ◌∷◌, ◌++◌, Some, codes}
+use Rattle.ad_words.specs.declared.command.TheConstants.{FUEL, MOST_FUEL, SEED}
+use Rattle.ad_words.specs.Words.{Command, Predict, Seq, Show, command_of}
+
+-- the seed and the fuel of a command are in range
+abbrev pub IsInRange : Command → Type 0
+IsInRange (Seq script seed fuel) = (seed < 2 ^ 64) × (1 ≤ fuel) × (fuel ≤ MOST_FUEL)
+IsInRange (Predict script seed fuel) = (seed < 2 ^ 64) × (1 ≤ fuel) × (fuel ≤ MOST_FUEL)
+IsInRange (Show file) = Unit {0}
+
+-- behind `--` any word is an operand
+pub record TakesAnyOperand : Type 0 where
+  pub seq : (word : List ℕ) → command_of (codes "seq" ∷ codes "--" ∷ word ∷ []) ≡ Some (Seq word SEED FUEL)
+  pub predict : (word : List ℕ) → command_of (codes "predict" ∷ codes "--" ∷ word ∷ []) ≡ Some (Predict word SEED FUEL)
+  pub show : (word : List ℕ) → command_of (codes "show" ∷ codes "--" ∷ word ∷ []) ≡ Some (Show word)
+
+-- `--seed N` says what `--seed=N` says, and `--fuel N` what `--fuel=N` says, whatever N and the task are
+pub record TakesBothForms : Type 0 where
+  pub seed : (task value operand : List ℕ) → command_of (task ∷ codes "--seed" ∷ value ∷ codes "--" ∷ operand ∷ [])
+      ≡ command_of (task ∷ (codes "--seed=" ++ value) ∷ codes "--" ∷ operand ∷ [])
+  pub fuel : (task value operand : List ℕ) → command_of (task ∷ codes "--fuel" ∷ value ∷ codes "--" ∷ operand ∷ [])
+      ≡ command_of (task ∷ (codes "--fuel=" ++ value) ∷ codes "--" ∷ operand ∷ [])

@@ -1,0 +1,36 @@
+-- How values of the code are seen.
+use Rattle.std.specs.Prelude.{ℕ, List, codes}
+use Rattle.ad_words.specs.declared.command.Command as read
+use Rattle.ad_words.specs.declared.command.Command.TheVariants as variants
+use Rattle.ad_words.specs.declared.task.Task.{Task}
+use Rattle.ad_words.specs.declared.task.Task.TheVariants as tasks
+use Rattle.ad_words.specs.declared.setting.Setting.{Setting}
+use Rattle.ad_words.specs.declared.setting.Setting.TheVariants as settings
+use Rattle.ad_words.specs.declared.kind.Kind as told
+use Rattle.ad_words.specs.declared.kind.Kind.TheVariants as kinds
+use Rattle.ad_words.specs.Words.{Apart, Command, End, Joined, Kind, OptionRow, Plain, Predict, Seq, Show, Wrong, fuel_option, seed_option}
+
+-- the command that was read, with its operand as bytes
+abbrev pub command_seen : read.Command → Command
+command_seen (variants.Seq script seed fuel) = Seq script.now seed fuel
+command_seen (variants.Predict script seed fuel) = Predict script.now seed fuel
+command_seen (variants.Show file) = Show file.now
+
+-- the word that names the task
+abbrev pub task_word : Task → List ℕ
+task_word tasks.Seq = codes "seq"
+task_word tasks.Predict = codes "predict"
+task_word tasks.Show = codes "show"
+
+-- the row of an option
+abbrev pub row_of : Setting → OptionRow
+row_of settings.Seed = seed_option
+row_of settings.Fuel = fuel_option
+
+-- what a word is, with its parts as bytes
+abbrev pub kind_seen : told.Kind → Kind
+kind_seen kinds.End = End
+kind_seen kinds.Plain = Plain
+kind_seen (kinds.Joined name value) = Joined name.now value.now
+kind_seen (kinds.Apart name) = Apart name.now
+kind_seen kinds.Wrong = Wrong

@@ -1,0 +1,29 @@
+//! Laws of the grammar.
+
+ghost use Rattle.std.specs.Prelude.{◌≡◌, ℕ, List, IfSome};
+ghost use Rattle.ad_words.specs.Laws.{IsInRange, TakesAnyOperand, TakesBothForms};
+ghost use Rattle.ad_words.specs.Words.{command_of};
+
+use crate::command::{FUEL, MOST_FUEL, SEED};
+
+/// The numbers that a command takes where its words say none, and the most fuel.
+pub fn law_defaults()
+    ensures seed { SEED ≡ 0 }
+    ensures fuel { FUEL ≡ 100000 }
+    ensures most_fuel { MOST_FUEL ≡ 100000000 }
+{}
+
+/// The numbers of a command are in range.
+pub fn law_in_range()
+    ensures { (words : List (List ℕ)) → IfSome (command_of words) IsInRange }
+{}
+
+/// Behind `--` any word is an operand.
+pub fn law_any_operand()
+    ensures { TakesAnyOperand }
+{}
+
+/// An option says the same in both its forms.
+pub fn law_both_forms()
+    ensures { TakesBothForms }
+{}

@@ -1,0 +1,16 @@
+//! The command words: what a list of words asks for, or that it isn't in the grammar.
+#![tactic(auto)]
+
+mod command;
+mod kind;
+mod laws;
+mod read;
+mod setting;
+mod task;
+#[cfg(test)]
+mod tests;
+mod told;
+
+pub use command::{Command, FUEL, MOST_FUEL, SEED};
+pub use laws::{law_any_operand, law_both_forms, law_defaults, law_in_range};
+pub use read::read_words;

@@ -1,0 +1,170 @@
+//! Worked words of each sentence of the grammar, on both sides.
+
+use crate::{Command, read_words};
+use std::alloc::{AllocError, Global};
+use std::test::Fail;
+
+/// The words as a process has them.
+fn owned(alloc: Global, words: &[&str]) -> Result<Vec<String>, AllocError> {
+    let mut list = Vec::new(alloc);
+    for word in words {
+        list.push(String::from_str(alloc, word)?)?;
+    }
+    Ok(list)
+}
+
+fn seq(script: &str, seed: u64, fuel: u64) -> Command<'_> {
+    Command::Seq { script, seed, fuel }
+}
+
+fn predict(script: &str, seed: u64, fuel: u64) -> Command<'_> {
+    Command::Predict { script, seed, fuel }
+}
+
+fn show(file: &str) -> Command<'_> {
+    Command::Show { file }
+}
+
+#[test]
+fn words_of_the_grammar(rt: HostRuntime) -> Result<(), Fail> {
+    let cases: [(&[&str], Command<'_>); 34] = [
+        // Tasks and operands.
+        (&["seq", "s"], seq("s", 0, 100_000)),
+        (&["predict", "s"], predict("s", 0, 100_000)),
+        (&["show", "f"], show("f")),
+        (&["seq", "seq"], seq("seq", 0, 100_000)),
+        (&["seq", ""], seq("", 0, 100_000)),
+        (&["show", ""], show("")),
+        (&["seq", "-"], seq("-", 0, 100_000)),
+        (&["show", "-"], show("-")),
+        (&["seq", "a=b"], seq("a=b", 0, 100_000)),
+        // `--` ends the options.
+        (&["seq", "s", "--"], seq("s", 0, 100_000)),
+        (&["seq", "--", "s"], seq("s", 0, 100_000)),
+        (&["seq", "--", "--"], seq("--", 0, 100_000)),
+        (&["seq", "--", "-x"], seq("-x", 0, 100_000)),
+        (&["seq", "--", "--help"], seq("--help", 0, 100_000)),
+        (&["seq", "--", "--seed=1"], seq("--seed=1", 0, 100_000)),
+        (&["show", "--", "--seed"], show("--seed")),
+        (&["seq", "--seed", "5", "--", "-"], seq("-", 5, 100_000)),
+        // Options before and behind the operand, in both forms and either order.
+        (&["seq", "--seed", "5", "s"], seq("s", 5, 100_000)),
+        (&["seq", "s", "--seed", "5"], seq("s", 5, 100_000)),
+        (&["seq", "--seed=5", "s"], seq("s", 5, 100_000)),
+        (&["seq", "s", "--seed=5"], seq("s", 5, 100_000)),
+        (&["seq", "--fuel", "7", "s"], seq("s", 0, 7)),
+        (&["seq", "s", "--fuel=7"], seq("s", 0, 7)),
+        (&["seq", "--seed", "5", "--fuel=7", "s"], seq("s", 5, 7)),
+        (&["seq", "--fuel", "7", "s", "--seed", "5"], seq("s", 5, 7)),
+        (
+            &["predict", "s", "--fuel=7", "--seed=5"],
+            predict("s", 5, 7),
+        ),
+        // Numbers.
+        (&["seq", "--seed", "0", "s"], seq("s", 0, 100_000)),
+        (&["seq", "--seed", "007", "s"], seq("s", 7, 100_000)),
+        (
+            &["seq", "--seed", "18446744073709551615", "s"],
+            seq("s", u64::MAX, 100_000),
+        ),
+        (
+            &["seq", "--seed=00018446744073709551615", "s"],
+            seq("s", u64::MAX, 100_000),
+        ),
+        (&["seq", "--fuel", "1", "s"], seq("s", 0, 1)),
+        (
+            &["seq", "--fuel", "100000000", "s"],
+            seq("s", 0, 100_000_000),
+        ),
+        (&["seq", "--fuel=00000000001", "s"], seq("s", 0, 1)),
+        (
+            &["predict", "--fuel=100000000", "s"],
+            predict("s", 0, 100_000_000),
+        ),
+    ];
+    for (words, command) in cases {
+        let owned = owned(rt.alloc(), words)?;
+        assert_eq!(rt; read_words(owned.as_slice()), Some(command), "at {words:?}");
+    }
+    Ok(())
+}
+
+#[test]
+fn words_of_no_grammar(rt: HostRuntime) -> Result<(), Fail> {
+    let cases: [&[&str]; 62] = [
+        // The task is missing, unknown or not the first word.
+        &[],
+        &[""],
+        &["s"],
+        &["s", "seq"],
+        &["run", "s"],
+        &["Seq", "s"],
+        &["--", "seq", "s"],
+        &["--seed", "5", "seq", "s"],
+        &["--help"],
+        &["--version"],
+        // There is no operand, or more than one.
+        &["seq"],
+        &["predict"],
+        &["show"],
+        &["seq", "--"],
+        &["seq", "--seed", "5"],
+        &["seq", "--seed=5"],
+        &["seq", "s", "t"],
+        &["seq", "s", ""],
+        &["seq", "-", "-"],
+        &["seq", "s", "--", "t"],
+        &["seq", "--", "s", "t"],
+        &["seq", "--", "--", "--"],
+        &["show", "f", "g"],
+        // An option that isn't known, or belongs to other tasks.
+        &["seq", "-x"],
+        &["seq", "-x", "s"],
+        &["seq", "s", "-5"],
+        &["seq", "--help"],
+        &["seq", "s", "--help"],
+        &["seq", "---", "s"],
+        &["seq", "--=5", "s"],
+        &["seq", "--slots", "4", "s"],
+        &["seq", "--slots=4", "s"],
+        &["seq", "--seeds=5", "s"],
+        &["seq", "-seed", "5", "s"],
+        &["seq", "--Seed", "5", "s"],
+        &["show", "--seed", "5", "f"],
+        &["show", "f", "--fuel=7"],
+        // An option is given twice.
+        &["seq", "--seed", "5", "--seed", "5", "s"],
+        &["seq", "--seed", "5", "s", "--seed=6"],
+        &["seq", "--fuel=7", "--fuel=7", "s"],
+        &["predict", "--fuel=7", "s", "--fuel", "8"],
+        // The value is missing, or is the word behind the option.
+        &["seq", "s", "--seed"],
+        &["seq", "--seed", "s"],
+        &["seq", "--seed", "--", "s"],
+        &["seq", "--seed", "--fuel", "7", "s"],
+        &["seq", "s", "--seed", "--"],
+        &["seq", "s", "--seed", "--", "5"],
+        // The value is no number.
+        &["seq", "--seed=", "s"],
+        &["seq", "--seed", "", "s"],
+        &["seq", "--seed", "-1", "s"],
+        &["seq", "--seed=-1", "s"],
+        &["seq", "--seed=+1", "s"],
+        &["seq", "--seed", "0x5", "s"],
+        &["seq", "--seed", "5a", "s"],
+        &["seq", "--seed", " 5", "s"],
+        &["seq", "--seed=5=5", "s"],
+        // The number isn't in range.
+        &["seq", "--seed", "18446744073709551616", "s"],
+        &["predict", "--seed=100000000000000000000", "s"],
+        &["seq", "--fuel", "0", "s"],
+        &["seq", "--fuel=000", "s"],
+        &["seq", "--fuel", "100000001", "s"],
+        &["predict", "--fuel=18446744073709551617", "s"],
+    ];
+    for words in cases {
+        let owned = owned(rt.alloc(), words)?;
+        assert_eq!(rt; read_words(owned.as_slice()), None, "at {words:?}");
+    }
+    Ok(())
+}

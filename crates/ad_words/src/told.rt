@@ -1,0 +1,96 @@
+//! What was read of the words so far.
+
+ghost use Rattle.std.specs.Prelude.{◌≡◌, ℕ, List, [], map, option_map, MatchOption, None, string_bytes};
+ghost use Rattle.ad_words.specs.Private.Heard.{Hears, command_heard};
+ghost use Rattle.ad_words.specs.Private.Seen.{command_seen, task_word};
+ghost use Rattle.ad_words.specs.Words.{Given, Operand, Said, command_said};
+
+use crate::command::Command;
+use crate::setting::{Setting, number, setting_named};
+use crate::task::Task;
+
+/// The operand and the values of the options, where they were read.
+#[derive(Clone, Copy)]
+pub struct Told<'a> {
+    operand: Option<&'a str>,
+    seed: Option<&'a str>,
+    fuel: Option<&'a str>,
+}
+
+impl<'a> Told<'a> {
+    /// Nothing was read.
+    pub fn nothing() -> Told<'a>
+        ensures { (task : List ℕ) (said : List Said) → command_heard task result said ≡ command_said task said }
+    {
+        Told {
+            operand: None,
+            seed: None,
+            fuel: None,
+        }
+    }
+
+    /// An operand was read, unless there was one.
+    pub fn with_operand(self, word: &'a str) -> Option<Told<'a>>
+        ensures { (task : List ℕ) → Hears task self.entry (Operand word.now) result }
+    {
+        match self.operand {
+            Some(_) => None,
+            None => Some(Told {
+                operand: Some(word),
+                ..self
+            }),
+        }
+    }
+
+    /// All other words are operands.
+    pub fn with_operands(self, words: &'a [String]) -> Option<Told<'a>>
+        ensures { (task : List ℕ) → MatchOption result
+            (command_heard task self.entry (map Operand (map string_bytes words.now)) ≡ None)
+            (λ told. command_heard task self.entry (map Operand (map string_bytes words.now)) ≡ command_heard task told []) }
+    {
+        match words {
+            [] => Some(self),
+            [word] => self.with_operand(word.as_str()),
+            _ => None,
+        }
+    }
+
+    /// An option with its value was read, unless it doesn't belong to the task or was read before.
+    pub fn with_option(self, task: Task, name: &str, value: &'a str) -> Option<Told<'a>>
+        ensures { Hears (task_word task) self.entry (Given name.now value.now) result }
+    {
+        match setting_named(task, name)? {
+            Setting::Seed if self.seed.is_none() => Some(Told {
+                seed: Some(value),
+                ..self
+            }),
+            Setting::Fuel if self.fuel.is_none() => Some(Told {
+                fuel: Some(value),
+                ..self
+            }),
+            Setting::Seed | Setting::Fuel => None,
+        }
+    }
+
+    /// The command of the task, with what was read.
+    pub fn command(self, task: Task) -> Option<Command<'a>>
+        ensures { option_map command_seen result ≡ command_heard (task_word task) self.entry [] }
+    {
+        let operand = self.operand?;
+        let seed = number(Setting::Seed, self.seed)?;
+        let fuel = number(Setting::Fuel, self.fuel)?;
+        Some(match task {
+            Task::Seq => Command::Seq {
+                script: operand,
+                seed,
+                fuel,
+            },
+            Task::Predict => Command::Predict {
+                script: operand,
+                seed,
+                fuel,
+            },
+            Task::Show => Command::Show { file: operand },
+        })
+    }
+}
