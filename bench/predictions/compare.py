@@ -17,8 +17,8 @@ from pathlib import Path
 
 TOP = Path(__file__).resolve().parents[2]
 
-RA, SP, T0, T1, T2, A0, A1, A2, A3 = 1, 2, 5, 6, 7, 10, 11, 12, 13
-SCRATCH = [T0, T1, A0, A1, A2, A3]
+RA, SP, X5, X6, X7, X10, X11, X12, X13 = 1, 2, 5, 6, 7, 10, 11, 12, 13
+SCRATCH = [X5, X6, X10, X11, X12, X13]
 READ = SCRATCH + [SP, 0]
 # What a script does with its module: three calls before a move, one between two moves, two behind them.
 STEPS = ["call", "call", "call", "move", "call", "move", "call", "call"]
@@ -123,7 +123,7 @@ def upper(choice):
 
 def access(choice):
     """A load or a store, mostly on the stack."""
-    base = choice.choice([SP, SP, SP, T0, T1])
+    base = choice.choice([SP, SP, SP, X5, X6])
     f3 = choice.choice([3, 3, 3, 2, 1, 0])
     value = -8 * choice.randrange(1, 6) + choice.choice([0, 0, 0, 0, 4, 1])
     if choice.random() < 0.5:
@@ -147,16 +147,16 @@ def branch(choice):
 def service(choice):
     """A call of a service, or of what lies beside them."""
     at = 16 * choice.choice([0, 1, 1, 2, 3, 4, 4, 5, 6]) + choice.choice([0, 0, 0, 0, 0, 4])
-    return [upper_form(0x37, T1, 0x40), immediate_form(0x67, 0, RA, T1, at)]
+    return [upper_form(0x37, X6, 0x40), immediate_form(0x67, 0, RA, X6, at)]
 
 
 def program(choice):
     """The words of a short program that returns to its caller, if it comes to its end."""
     pieces = [arithmetic, constant, constant, address, address, upper, access, access, branch, service, part_of_address]
-    words = [addi(T2, RA, 0)]
+    words = [addi(X7, RA, 0)]
     for _ in range(choice.randrange(1, 9)):
         words += choice.choice(pieces)(choice)
-    return words + [immediate_form(0x67, 0, 0, T2, 0)]
+    return words + [immediate_form(0x67, 0, 0, X7, 0)]
 
 
 def script(choice):
