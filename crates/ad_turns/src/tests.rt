@@ -1,7 +1,7 @@
 //! What no clause says: worked examples, each call once with ample memory, and threads beside one another.
 //! The expected entries are those that the workers appended, written by hand.
 
-ghost use Rattle.std.specs.Prelude.{◌≡◌, ◌+◌, ◌-◌, ◌<◌, ◌≤◌, [], ◌∷◌, length, slice_index, slice_set, All, IfOk};
+ghost use Rattle.std.specs.Prelude.{◌≡◌, ◌-◌, ◌<◌, ◌≤◌, [], ◌∷◌, length, slice_index, slice_set, All, IfOk};
 ghost use Rattle.std.specs.Thread.{IsSync};
 ghost use Rattle.ad_base.specs.declared.book.Book.{Book};
 ghost use Rattle.ad_turns.specs.Seen.{AreAll};
@@ -80,23 +80,25 @@ fn empty_books(alloc: Global, count: usize, room: u64) -> Result<Vec<Book>, OutO
     Ok(books)
 }
 
-/// A table of so many workers, each of whom may draw so often of each module, and at most 1,000 times of one.
+/// A table of so many workers, each of whom may draw so often of each module, and at most `most` times of one.
 fn open_equal(
     alloc: Global,
     workers: u64,
     numbers: &[u64],
+    most: u64,
 ) -> Result<(Turns, Vec<TurnSeat>), OutOfMemory>
     requires from { 1 ≤ workers }
     requires to { workers ≤ 64 }
     requires modules { length numbers.now ≤ 8 }
-    requires numbers { All (λ n. n ≤ 1000) numbers.now }
+    requires most { most ≤ 1000000 }
+    requires numbers { All (λ n. n ≤ most) numbers.now }
     ensures workers { IfOk result (λ opened. length opened.0.calls ≡ workers) }
     ensures modules { IfOk result (λ opened. length opened.0.openings ≡ length numbers.now) }
     ensures seats { IfOk result (λ opened. AreAll opened.0.table workers opened.1.items) }
     ensures left { IfOk result (λ opened. All (λ s. s.left ≡ numbers.now) opened.1.items) }
 {
     let calls = equal_calls(alloc, workers, numbers)?;
-    let books = empty_books(alloc, numbers.len(), workers * 1000)?;
+    let books = empty_books(alloc, numbers.len(), workers * most)?;
     Turns::open(alloc, books, calls.as_slice())
 }
 
@@ -124,28 +126,27 @@ fn make_turn<R: Wait + Abort>(
     turns.give(held)
 }
 
-/// Makes so many turns at the module, in lines that count up from this one.
-fn make_turns<R: Wait + Abort>(
+/// Makes a turn, in this line, at each module of which a draw is left to the worker.
+fn turn_at_each<R: Wait + Abort>(
     rt: &R,
     turns: &Turns,
     seat: TurnSeat,
     worker: u64,
-    module: u64,
-    first: u64,
-    times: u64,
+    modules: u64,
+    line: u64,
 ) -> TurnSeat
     requires table { seat.table ≡ turns.now.table }
     requires worker { seat.worker ≡ worker }
-    requires inside { «module» < length seat.left }
-    requires left { times ≤ slice_index seat.left «module» }
-    requires lines { first + times < 10000000 }
+    requires wide { length seat.left ≡ modules }
     ensures table { result.table ≡ seat.table }
     ensures worker { result.worker ≡ worker }
-    ensures left { result.left ≡ slice_set seat.left «module» (slice_index seat.left «module» - times) }
+    ensures wide { length result.left ≡ modules }
 {
     let mut seat = seat;
-    for more in 0..times {
-        seat = make_turn(rt, turns, seat, worker, module, first + more);
+    for module in 0..modules {
+        if 0 < seat.left(module) {
+            seat = make_turn(rt, turns, seat, worker, module, line);
+        }
     }
     seat
 }
@@ -167,7 +168,7 @@ fn open_two(rt: &impl Abort, alloc: Global) -> Result<(Turns, TurnSeat, TurnSeat
     ensures second { IfOk result (λ opened. (opened.2.table ≡ opened.0.table) × (opened.2.worker ≡ 1)) }
     ensures left { IfOk result (λ opened. (opened.1.left ≡ 1 ∷ []) × (opened.2.left ≡ 1 ∷ [])) }
 {
-    let (turns, mut seats) = open_equal(alloc, 2, &[1])?;
+    let (turns, mut seats) = open_equal(alloc, 2, &[1], 1)?;
     let second = seats.pop().expect(rt, "a seat");
     let first = seats.pop().expect(rt, "a seat");
     Ok((turns, first, second))
@@ -220,38 +221,46 @@ fn worker_of(seat: &TurnSeat) -> u64
     seat.worker
 }
 
-/// Makes all turns that a worker may make, module by module, in lines that count up from 0.
-fn all_turns<R: Wait + Abort>(rt: &R, turns: &Turns, seat: TurnSeat, numbers: &[u64]) -> TurnSeat
+/// Makes all turns that a worker may make, if those of a module are at most so many: in each line one at each module
+/// of which a draw is left, so that the turns at the modules alternate. The lines count up from 0.
+fn all_turns<R: Wait + Abort>(
+    rt: &R,
+    turns: &Turns,
+    seat: TurnSeat,
+    modules: u64,
+    most: u64,
+) -> TurnSeat
     requires table { seat.table ≡ turns.now.table }
-    requires left { seat.left ≡ numbers.now }
-    requires numbers { All (λ n. n ≤ 1000) numbers.now }
+    requires wide { length seat.left ≡ modules }
     ensures table { result.table ≡ seat.table }
     ensures worker { result.worker ≡ seat.worker }
 {
     let worker = worker_of(&seat);
     let mut seat = seat;
-    for module in 0..numbers.len() {
-        seat = make_turns(rt, turns, seat, worker, module as u64, 0, numbers[module]);
+    for line in 0..most {
+        seat = turn_at_each(rt, turns, seat, worker, modules, line);
     }
     seat
 }
 
-/// Makes all turns of all workers, in a thread for each of them. Gives the books of the closed table.
+/// Makes all turns of all workers, each of whom may make so many at each module and at most `most` at one, in a thread
+/// for each worker. Gives the books of the closed table.
 fn beside_one_another<R: Threads + Wait + Abort + Sync>(
     rt: &R,
     alloc: Global,
     workers: u64,
     numbers: &[u64],
+    most: u64,
 ) -> Result<Vec<Book>, OutOfMemory>
     requires from { 1 ≤ workers }
     requires to { workers ≤ 64 }
     requires modules { length numbers.now ≤ 8 }
-    requires numbers { All (λ n. n ≤ 1000) numbers.now }
+    requires most { most ≤ 1000000 }
+    requires numbers { All (λ n. n ≤ most) numbers.now }
     ensures { IfOk result (λ books. length books.items ≡ length numbers.now) }
 {
-    let (turns, seats) = open_equal(alloc, workers, numbers)?;
-    let table = &turns;
-    let seats = all_threads(rt, table, seats, numbers)?;
+    let (turns, seats) = open_equal(alloc, workers, numbers, most)?;
+    let seats = all_threads(rt, &turns, seats, numbers, most)?;
     turns.close(alloc, seats)
 }
 
@@ -261,10 +270,10 @@ fn all_threads<R: Threads + Wait + Abort + Sync>(
     turns: &Turns,
     seats: Vec<TurnSeat>,
     numbers: &[u64],
+    most: u64,
 ) -> Result<Vec<TurnSeat>, AllocError>
     requires seats { AreAll turns.now.table (length seats.items) seats.items }
     requires left { All (λ s. s.left ≡ numbers.now) seats.items }
-    requires numbers { All (λ n. n ≤ 1000) numbers.now }
     ensures { IfOk result (λ after. AreAll turns.now.table (length seats.items) after.items) }
 {
     thread::map_vec(
@@ -273,10 +282,9 @@ fn all_threads<R: Threads + Wait + Abort + Sync>(
         &|seat: TurnSeat| -> TurnSeat
             requires table { seat.table ≡ turns.now.table }
             requires left { seat.left ≡ numbers.now }
-            requires numbers { All (λ n. n ≤ 1000) numbers.now }
             ensures table { result.table ≡ seat.table }
             ensures worker { result.worker ≡ seat.worker }
-        { all_turns(rt, turns, seat, numbers) },
+        { all_turns(rt, turns, seat, numbers.len() as u64, most) },
     )
 }
 
@@ -313,7 +321,7 @@ fn threads_leave_each_turn_once(rt: HostRuntime) -> Result<(), Fail> {
     let alloc = rt.alloc();
     for (workers, numbers) in RUNS {
         assert!(rt; 1 <= workers && workers <= 64 && numbers.iter().all(|number| *number <= 1_000));
-        let books = beside_one_another(&rt, alloc, workers, numbers.as_slice())?;
+        let books = beside_one_another(&rt, alloc, workers, numbers.as_slice(), 1_000)?;
         assert_eq!(rt; books.len(), 8);
         for (number, book) in numbers.iter().zip(books.iter()) {
             assert!(rt; has_all(alloc, book, workers as usize, *number)?);

@@ -4,7 +4,7 @@ use Rattle.ad_turns.proofs.Opened.{rooms_for, all_of_new, all_left, if_ok}
 use Rattle.ad_turns.proofs.tests.open_equal.Goals as goal
 
 pub open-requires-clause-room : goal.open-requires-clause-room
-open-requires-clause-room c = rooms_for _ c.args.numbers.now _ 1000 c.args.workers (ap length c.as_slice.ensures.value ∙ c.in_ok-calls.ensures.count)
+open-requires-clause-room c = rooms_for _ c.args.numbers.now _ c.args.most c.args.workers (ap length c.as_slice.ensures.value ∙ c.in_ok-calls.ensures.count)
     (subst (All (λ (left : List ℕ). left ≡ c.args.numbers.now)) (sym c.as_slice.ensures.value) c.in_ok-calls.ensures.each) c.requires.numbers c.in_ok-books.ensures.room
 
 pub returns-clause-seats : goal.returns-clause-seats
