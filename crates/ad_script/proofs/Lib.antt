@@ -1,7 +1,2 @@
-pub mod ArgumentText
-pub mod InRange
-pub mod LoadText
-pub mod OneScript
-pub mod Splitting
-pub mod StepText
-pub mod StepsText
+pub mod Spelling
+pub mod Words

@@ -1,2 +1,5 @@
+pub mod Lines
+pub mod Forms
 pub mod Script
+pub mod Range
 pub mod Private
