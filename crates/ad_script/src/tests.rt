@@ -1,8 +1,8 @@
 //! Texts that are scripts, with what they say, and texts that are refused, each with its line and its cause.
 
 use crate::{
-    ARGUMENTS, Cause, Load, SCRIPT_LINES, Script, ScriptRefusal, Step, file_text, law_in_range,
-    law_most, read_script,
+    ARGUMENTS, Cause, Load, SCRIPT_LINES, Script, ScriptRefusal, Step, law_in_range, law_most,
+    read_script,
 };
 use std::alloc::Global;
 use std::fmt::Write;
@@ -330,17 +330,9 @@ fn has_at_most_20_000_lines(rt: HostRuntime) -> Result<(), Fail> {
 }
 
 #[test]
-fn a_file_has_its_name(rt: HostRuntime) -> Result<(), Fail> {
+fn laws_are_called() {
     law_in_range();
     law_most();
-    let Ok(script) = read_script(rt.alloc(), b"load square examples/square.o") else {
-        return Err("a text of a script was refused".into());
-    };
-    assert_eq!(rt;
-        file_text(&script.loads.as_slice()[0].file),
-        "examples/square.o"
-    );
-    Ok(())
 }
 
 #[test]
