@@ -1,11 +1,11 @@
 -- The numbers that lines say are in range.
-use Rattle.std.proofs.Common.{◌≡◌, ◌≢◌, ℕ, ◌+◌, ◌<◌, ◌≤◌, ◌==◌, ◌&&◌, ◌||◌, Bool, true, false, not, nat_le, nat_lt, List, [], ◌∷◌, ◌++◌, length, map, position, get_or, bytes_eq, Option, None, Some, IfSome, unwrap_or, Result, Ok, Err, refl, sym, ap, subst, ◌∙◌, arith, tests, lit≤, lit<}
+use Rattle.std.proofs.Common.{◌≡◌, ◌≢◌, ℕ, ◌+◌, ◌<◌, ◌≤◌, ◌&&◌, ◌||◌, Bool, true, false, not, List, [], ◌∷◌, ◌++◌, length, map, position, get_or, bytes_eq, Option, None, Some, IfSome, unwrap_or, refl, sym, ap, ◌∙◌, arith, tests, lit≤, lit<}
 use Rattle.std.specs.List.{All, AllPairs, list_all, list_any, position_or_len}
-use Rattle.std.specs.Option.{is_none, is_some}
-use Rattle.std.proofs.lemmas.Bool.{leb-true, ltb-false, true≢false}
+use Rattle.std.specs.Option.{is_some}
+use Rattle.std.proofs.lemmas.Bool.{true≢false}
 use Rattle.std.proofs.lemmas.List.Sums.{fails_before_first}
-use Rattle.std.proofs.lemmas.List.{length_push, nil_from_length}
-use Rattle.std.proofs.lemmas.List.Elements.{All-nil, All-cons, All-push, All-weaker}
+use Rattle.std.proofs.lemmas.List.{length_push}
+use Rattle.std.proofs.lemmas.List.Elements.{All-nil, All-cons, All-push}
 use Rattle.std.proofs.lemmas.List.Kept.{AllPairs-cons}
 use Rattle.std.proofs.lemmas.List.Quantifiers.{all_pairs_push, position-Some}
 use Rattle.std.proofs.lemmas.Slice.Eq.{bytes_eq-Decides}
@@ -14,11 +14,10 @@ use Rattle.ad_script.specs.declared.refusal.Cause.{Cause}
 use Rattle.ad_script.specs.declared.refusal.Cause.TheVariants.{Word}
 use Rattle.ad_script.specs.declared.script.Load.{Load}
 use Rattle.ad_script.specs.declared.script.Step.{Step}
-use Rattle.ad_script.specs.declared.script.Step.TheVariants.{Call, Move, Stack}
 use Rattle.ad_script.specs.declared.script.TheConstants.{SCRIPT_LINES}
-use Rattle.ad_script.specs.Forms.{Blank, Calls, Form, Loads, Moves, Stacks, Workers, export_part, form_of, is_file_name, is_module_name, module_part, number_of}
-use Rattle.ad_script.specs.Range.{IsMoveInRange, IsStepInRange}
-use Rattle.ad_script.specs.Script.{Said, first_cause, form_cause, form_sentences, nothing_said, with_step, has_bad_name, has_bad_number, has_bad_target, has_repeats, has_too_many, is_bad_count, is_late, is_loaded, is_past_last_load, lacks_module, lacks_worker, line_of, module_number, number_of_module, number_or_0, repeats, with_form, workers_of}
+use Rattle.ad_script.specs.Forms.{Form, is_file_name, is_module_name}
+use Rattle.ad_script.specs.Range.{IsStepInRange}
+use Rattle.ad_script.specs.Script.{Said, first_cause, form_cause, form_sentences, nothing_said, with_step, has_bad_name, has_bad_number, has_repeats, has_too_many, is_late, is_loaded, is_past_last_load, lacks_module, lacks_worker, line_of, module_number, number_of_module, repeats, workers_of}
 
 -- no sentence holds where there is no cause
 pub none_hold : (rows : List (Bool × Cause)) → first_cause rows ≡ None → All (λ (row : Bool × Cause). row.0 ≡ false) rows

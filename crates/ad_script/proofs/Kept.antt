@@ -1,9 +1,9 @@
 -- The numbers that a whole text says are in range.
-use Rattle.std.proofs.Common.{◌≡◌, ℕ, ◌+◌, ◌<◌, ◌≤◌, ◌==◌, ◌||◌, Bool, true, false, not, nat_le, nat_lt, List, [], ◌∷◌, length, map, Option, None, Some, IfSome, unwrap_or, Result, Ok, Err, refl, sym, ap, subst, ◌∙◌, arith, tests, lit≤, bytes_eq, codes, cond, lit<}
+use Rattle.std.proofs.Common.{◌≡◌, ℕ, ◌+◌, ◌<◌, ◌≤◌, ◌==◌, Bool, true, false, not, nat_lt, List, [], ◌∷◌, length, Option, None, Some, IfSome, unwrap_or, Result, Ok, Err, refl, subst, arith, tests, lit≤, bytes_eq, codes, cond, lit<}
 use Rattle.std.proofs.lemmas.List.{length-map}
-use Rattle.std.specs.List.{All, list_all}
-use Rattle.std.specs.Option.{is_none, is_some}
-use Rattle.std.proofs.lemmas.Bool.{leb-true, ltb-false}
+use Rattle.std.specs.List.{list_all}
+use Rattle.std.specs.Option.{is_none}
+use Rattle.std.proofs.lemmas.Bool.{ltb-false}
 use Rattle.ad_base.specs.declared.layout.TheConstants.{MODULES, WORKERS}
 use Rattle.ad_script.specs.declared.refusal.Cause.{Cause}
 use Rattle.ad_script.specs.declared.refusal.Cause.TheVariants.{NotText, TooMany, Word}
@@ -11,11 +11,11 @@ use Rattle.ad_script.specs.declared.refusal.ScriptRefusal.{ScriptRefusal}
 use Rattle.ad_script.specs.declared.refusal.ScriptRefusal.TheVariants.{At}
 use Rattle.ad_script.specs.declared.script.Script.{Script}
 use Rattle.ad_script.specs.declared.script.TheConstants.{SCRIPT_LINES}
-use Rattle.ad_script.specs.Forms.{Blank, Calls, Form, Loads, Moves, Stacks, Workers, call_form, form_of, is_file_name, is_module_name, load_form, module_part, move_form, number_of, stack_form, workers_form}
+use Rattle.ad_script.specs.Forms.{Blank, Calls, Form, Loads, Moves, Stacks, Workers, call_form, form_of, is_file_name, is_module_name, load_form, module_part, move_form, stack_form, workers_form}
 use Rattle.ad_script.specs.Lines.{is_text_byte, lines_of, without_return, words_of}
 use Rattle.ad_script.specs.Range.{IsInRange}
-use Rattle.ad_script.specs.Script.{Said, after_form, after_line, after_lines, first_cause, form_cause, has_repeats, is_bad_count, is_bad_number, is_loaded, nothing_said, number_of_module, number_or_0, script_from, script_of, script_said, text_cause, unless, with_form, workers_of}
-use Rattle.ad_script.proofs.InRange.{IsPassed, IsSaidInRange, after_blank, after_load, after_step, after_workers, both, different_numbers, found, is_passed, negated, neither, no_load, none_hold, not_found, nothing_in_range, numbers_in_range}
+use Rattle.ad_script.specs.Script.{Said, after_form, after_line, after_lines, form_cause, is_bad_number, is_loaded, nothing_said, number_of_module, number_or_0, script_from, script_of, script_said, text_cause, unless, with_form, workers_of}
+use Rattle.ad_script.proofs.InRange.{IsSaidInRange, after_blank, after_load, after_step, after_workers, different_numbers, found, is_passed, negated, neither, no_load, none_hold, not_found, nothing_in_range, numbers_in_range}
 
 -- a move names some module
 module _ (names : List (List ℕ)) where

@@ -2,12 +2,11 @@
 use Rattle.std.specs.Prelude.{◌≡◌, ◌≢◌, ℕ, ◌<◌, ◌≤◌, true, List, length}
 use Rattle.std.specs.List.{All, AllPairs}
 use Rattle.ad_base.specs.declared.layout.TheConstants.{MODULES, WORKERS}
-use Rattle.ad_script.specs.declared.script.Load.{Load}
 use Rattle.ad_script.specs.declared.script.Script.{Script}
 use Rattle.ad_script.specs.declared.script.Step.{Step}
 use Rattle.ad_script.specs.declared.script.Step.TheVariants.{Call, Move, Stack}
-use Rattle.ad_script.specs.declared.script.TheConstants.{ARGUMENTS, SCRIPT_LINES}
-use Rattle.ad_script.specs.Forms.{is_export_name, is_file_name, is_module_name}
+use Rattle.ad_script.specs.declared.script.TheConstants.{SCRIPT_LINES}
+use Rattle.ad_script.specs.Forms.{is_file_name, is_module_name}
 use Rattle.ad_script.specs.Script.{line_of}
 
 -- the modules of a move: some of those loaded, of which there are so many, and none of them twice

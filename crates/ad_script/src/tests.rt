@@ -1,8 +1,8 @@
 //! Texts that are scripts, with what they say, and texts that are refused, each with its line and its cause.
 
 use crate::{
-    ARGUMENTS, Cause, Load, SCRIPT_LINES, Script, ScriptRefusal, Step, law_in_range, law_most,
-    read_script,
+    ARGUMENTS, Cause, Load, SCRIPT_LINES, Script, ScriptRefusal, Step, law_first_bad_line,
+    law_in_range, law_most, read_script,
 };
 use std::alloc::Global;
 use std::fmt::Write;
@@ -331,6 +331,7 @@ fn has_at_most_20_000_lines(rt: HostRuntime) -> Result<(), Fail> {
 
 #[test]
 fn laws_are_called() {
+    law_first_bad_line();
     law_in_range();
     law_most();
 }
