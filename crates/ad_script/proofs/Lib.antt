@@ -1,7 +1,7 @@
-pub mod ArgumentText
+pub mod FirstBad
 pub mod InRange
-pub mod LoadText
-pub mod OneScript
-pub mod Splitting
-pub mod StepText
-pub mod StepsText
+pub mod Kept
+pub mod Lists
+pub mod Reading
+pub mod Spelling
+pub mod Words

@@ -1,2 +1,6 @@
+pub mod Lines
+pub mod Forms
 pub mod Script
+pub mod Range
+pub mod Laws
 pub mod Private

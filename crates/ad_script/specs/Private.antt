@@ -1,2 +1,2 @@
 -- Definitions that serve private functions alone.
-pub mod Split
+pub mod Seen

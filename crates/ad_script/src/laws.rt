@@ -1,35 +1,35 @@
 //! Laws of scripts.
 
-ghost use Rattle.std.specs.Prelude.{◌≡◌, ◌+◌, ◌≤◌, ℕ, List, Some, slice_get};
+ghost use Rattle.std.specs.Prelude.{◌≡◌, ℕ, List, Err, Ok, true};
 ghost use Rattle.std.specs.Str.{IsUtf8};
 ghost use Rattle.ad_script.specs.declared.script.Script.{Script};
-ghost use Rattle.ad_script.specs.declared.script.Step.{Step};
-ghost use Rattle.ad_script.specs.Script.{IsFileName, IsInRange, IsScript, line_of};
+ghost use Rattle.ad_script.specs.declared.refusal.Cause.{Cause};
+ghost use Rattle.ad_script.specs.Forms.{is_file_name};
+ghost use Rattle.ad_script.specs.Laws.{IsFirstBadLine};
+ghost use Rattle.ad_script.specs.Range.{IsInRange};
+ghost use Rattle.ad_script.specs.Script.{script_of};
 
-use crate::script::SCRIPT_LINES;
-
-/// A text says one script.
-pub fn law_one_script()
-    ensures { (bytes : List ℕ) (s t : Script) → IsScript bytes s → IsScript bytes t → s ≡ t }
-{}
+use crate::refusal::ScriptRefusal;
+use crate::script::{ARGUMENTS, SCRIPT_LINES};
 
 /// The numbers that a script says are in range.
 pub fn law_in_range()
-    ensures { (bytes : List ℕ) (s : Script) → IsScript bytes s → IsInRange s }
+    ensures { (bytes : List ℕ) (s : Script) → script_of bytes ≡ Ok s → IsInRange s }
 {}
 
-/// Lines are counted from 1, and the steps begin at the second line.
-pub fn law_lines()
-    ensures { (bytes : List ℕ) (s : Script) → IsScript bytes s → (i : ℕ) (step : Step)
-        → slice_get s.steps i ≡ Some step → (line_of step ≡ i + 2) × (i + 2 ≤ SCRIPT_LINES) }
+/// A text is refused at its first bad line, with the first cause why that is refused behind the lines before it.
+pub fn law_first_bad_line()
+    ensures refused { (text : List ℕ) (line : ℕ) (cause : Cause) → script_of text ≡ Err (ScriptRefusal.At line cause) → IsFirstBadLine text line cause }
+    ensures first { (text : List ℕ) (line : ℕ) (cause : Cause) → IsFirstBadLine text line cause → script_of text ≡ Err (ScriptRefusal.At line cause) }
 {}
 
-/// Lines of a script at most.
-pub fn law_most_lines()
-    ensures { SCRIPT_LINES ≡ 20000 }
+/// Lines of a script at most, and arguments of a call.
+pub fn law_most()
+    ensures lines { SCRIPT_LINES ≡ 20000 }
+    ensures arguments { ARGUMENTS ≡ 8 }
 {}
 
 /// The name of a file is ASCII, and so it is text.
 pub(crate) fn law_file_names_are_text()
-    ensures { (name : List ℕ) → IsFileName name → IsUtf8 name }
+    ensures { (name : List ℕ) → is_file_name name ≡ true → IsUtf8 name }
 {}

@@ -1,18 +1,22 @@
-//! Scripts: a line that loads a module, and lines that call its exports and move it.
+//! Scripts: lines that say how many workers there are and load modules, and lines that call exports, move modules and
+//! give workers fresh stacks.
 #![tactic(auto)]
 
-mod arguments;
+mod forms;
 mod laws;
-mod lines;
 mod names;
+mod numbers;
 mod read;
+mod refusal;
+mod said;
 mod script;
-mod split;
+mod text;
 
-pub use laws::{law_in_range, law_lines, law_most_lines, law_one_script};
+pub use laws::{law_first_bad_line, law_in_range, law_most};
 pub use names::file_text;
 pub use read::read_script;
-pub use script::{Load, Members, SCRIPT_LINES, Script, Step};
+pub use refusal::{Cause, ScriptRefusal};
+pub use script::{ARGUMENTS, Load, Members, SCRIPT_LINES, Script, Step};
 
 #[cfg(test)]
 mod tests;

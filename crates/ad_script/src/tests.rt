@@ -1,170 +1,386 @@
-//! Scripts that have the form and texts that have another, and each call once with memory.
+//! Texts that are scripts, with what they say, and texts that are refused, each with its line and its cause.
 
 use crate::{
-    SCRIPT_LINES, Step, file_text, law_in_range, law_lines, law_most_lines, law_one_script,
-    read_script,
+    ARGUMENTS, Cause, Load, SCRIPT_LINES, Script, ScriptRefusal, Step, law_first_bad_line,
+    law_in_range, law_most, read_script,
 };
-use ad_base::OutOfMemory;
 use std::alloc::Global;
+use std::fmt::Write;
 use std::test::Fail;
 
-const ACCEPTED: [&[u8]; 18] = [
-    b"load m f\n",
-    b"load m f\ncall 0 m.e\n",
-    b"load square examples/square.o\ncall 0 square.main 1 2\n",
-    b"load _m9 a#b\ncall 0 _m9..$_Z9\n",
-    b"load m f\ncall 0 m.e 0 1 2 3 4 5 6 7\n",
-    b"load m f\ncall 0 m.e 18446744073709551615\n",
-    b"load m f\ncall 0 m.e 007\n",
-    b"load m f\ncall 0 m.e 000000000000000000000000000000\n",
-    b"load abcdefghijklmnopqrstuvwxyzABCDEF f\ncall 0 abcdefghijklmnopqrstuvwxyzABCDEF.e\n",
-    b"load m load\ncall 0 m.call\n",
-    b"load m ~!\ncall 0 m.0\n",
-    b"load m m.e\ncall 0 m.m.e\n",
-    b"load load 0\ncall 0 load.0 0\n",
-    b"load move 0\nmove move\ncall 0 move.move\n",
-    b"load m f\nmove m\n",
-    b"load m f\nmove m\nmove m\ncall 0 m.e\nmove m\ncall 0 m.e 1\nmove m\n",
-    b"load m f\ncall 0 m.e 1 2\ncall 0 m.d\ncall 0 m.$ 3\n",
-    b"load call f\ncall 0 call.e\nmove call\n",
-];
-
-const REFUSED: [&[u8]; 48] = [
-    b"",
-    b"\n",
-    b"load m f",
-    b"move m\n",
-    b"call 0 m.e\n",
-    b"load m f\n\n",
-    b"load m f\n\nmove m\n",
-    b"load m f\ncall 0 m.e",
-    b"load m f\nmove m\ncall 0 m.e",
-    b"load m f\nmove m",
-    b"load m f\ncall 0 m.e\n\n",
-    b"load m f\ncall 0 m.e\nload m f\n",
-    b"load m f\r\ncall 0 m.e\n",
-    b"load m f\ncall 0 m.e\r\n",
-    b"load m f\nmove m\r\n",
-    b" load m f\ncall 0 m.e\n",
-    b"load  m f\ncall 0 m.e\n",
-    b"load m  f\ncall 0 m.e\n",
-    b"load m\tf\ncall 0 m.e\n",
-    b"load m f \ncall 0 m.e\n",
-    b"load m f g\ncall 0 m.e\n",
-    b"load m #f\ncall 0 m.e\n",
-    b"load m \ncall 0 m.e\n",
-    b"load m \xc3\xa9\ncall 0 m.e\n",
-    b"load 1m f\ncall 0 1m.e\n",
-    b"load m.n f\ncall 0 m.n.e\n",
-    b"load abcdefghijklmnopqrstuvwxyzABCDEFG f\ncall 0 abcdefghijklmnopqrstuvwxyzABCDEFG.e\n",
-    b"load m f\ncall 0 n.e\n",
-    b"load m f\ncall 0 m.e\ncall 0 n.e\n",
-    b"load m f\ncall 0 mm.e\n",
-    b"load m f\ncall 1 m.e\n",
-    b"load m f\ncall 0 m.\n",
-    b"load m f\ncall 0 m.e-f\n",
-    b"load m f\ncall 0 m.e 1  2\n",
-    b"load m f\ncall 0 m.e 1 \n",
-    b"load m f\ncall 0 m.e +1\n",
-    b"load m f\ncall 0 m.e -1\n",
-    b"load m f\ncall 0 m.e 0x1\n",
-    b"load m f\ncall 0 m.e 18446744073709551616\n",
-    b"load m f\ncall 0 m.e 0 1 2 3 4 5 6 7 8\n",
-    b"load m f\ncall 0 m.e # text\n",
-    b"load m f\nmove n\n",
-    b"load m f\nmove mm\n",
-    b"load m f\nmove \n",
-    b"load m f\nmove m \n",
-    b"load m f\nmove m m\n",
-    b"load m f\nmove  m\n",
-    b"load m f\n move m\n",
-];
-
-fn is_script(alloc: Global, text: &[u8]) -> Result<bool, OutOfMemory> {
-    Ok(read_script(alloc, text)?.is_some())
-}
-
-/// A script of the line that loads a module, and this number of moves.
-fn moves(alloc: Global, count: u64) -> Result<Vec<u8>, OutOfMemory> {
-    let mut text = Vec::from_slice(alloc, b"load m f\n")?;
-    for _ in 0..count {
-        text.extend_from_slice(b"move m\n")?;
+/// What a script says, as text: the workers, the loads by line, and the steps by line.
+fn told(alloc: Global, script: &Script) -> Result<String, Fail> {
+    let mut text = format!(in alloc; "workers {}", script.workers)?;
+    for load in script.loads.as_slice() {
+        write_load(&mut text, load)?;
+    }
+    for step in script.steps.as_slice() {
+        write_step(&mut text, step)?;
     }
     Ok(text)
 }
 
-fn has_moves(alloc: Global, count: u64) -> Result<bool, OutOfMemory> {
-    is_script(alloc, &moves(alloc, count)?)
+fn write_load(text: &mut String, load: &Load) -> Result<(), Fail> {
+    write!(text, "; {} load {} {}", load.line, load.name, load.file)?;
+    Ok(())
 }
 
-#[test]
-fn accepts(rt: HostRuntime) -> Result<(), Fail> {
-    for text in &ACCEPTED {
-        assert!(rt; is_script(rt.alloc(), text)?, "{text:?}");
+fn write_step(text: &mut String, step: &Step) -> Result<(), Fail> {
+    match step {
+        Step::Call {
+            line,
+            worker,
+            module,
+            export,
+            args,
+        } => {
+            write!(text, "; {line} call {worker} {module}.{export}")?;
+            for arg in args.as_slice() {
+                write!(text, " {arg}")?;
+            }
+        }
+        Step::Move { line, modules } => {
+            write!(text, "; {line} move")?;
+            for module in modules.as_slice() {
+                write!(text, " {module}")?;
+            }
+        }
+        Step::Stack { line, worker } => write!(text, "; {line} stack {worker}")?,
     }
     Ok(())
 }
 
+/// Texts of scripts, and what they say.
+const SCRIPTS: [(&[u8], &str); 36] = [
+    // Lines that say nothing.
+    (b"", "workers 1"),
+    (b"\n", "workers 1"),
+    (b"\n\n\n", "workers 1"),
+    (b" \t \n\t", "workers 1"),
+    (b"# load m f\n", "workers 1"),
+    (b"#", "workers 1"),
+    (b" #call 0 m.e\n", "workers 1"),
+    // The ends of lines: LF, CR LF, none, and a CR alone at the end of the text.
+    (b"workers 2", "workers 2"),
+    (b"workers 2\r", "workers 2"),
+    (b"workers 2\r\n", "workers 2"),
+    (b"\r\nworkers 2\r\n\r\n", "workers 2"),
+    (b"workers 2\n\r", "workers 2"),
+    (b"load m f\r\nmove m", "workers 1; 1 load m f; 2 move 0"),
+    // Spaces and tabs, and comments behind words.
+    (b"  workers\t \t3  ", "workers 3"),
+    (b"workers 3 # four", "workers 3"),
+    (b"workers 3 #", "workers 3"),
+    (b"load m a#b # c", "workers 1; 1 load m a#b"),
+    // Numbers, with leading zeros and in both cases.
+    (b"workers 1", "workers 1"),
+    (b"workers 64", "workers 64"),
+    (b"workers 0x40", "workers 64"),
+    (b"workers 000000000000000000000000000064", "workers 64"),
+    (
+        b"workers 0x00000000000000000000000000000000002a",
+        "workers 42",
+    ),
+    (
+        b"load m f\ncall 0x0 m.e 18446744073709551615 0xffffffffFFFFFFFF 0xaB 007",
+        "workers 1; 1 load m f; 2 call 0 0.e 18446744073709551615 18446744073709551615 171 7",
+    ),
+    (
+        b"load m f\ncall 0 m.e 0 1 2 3 4 5 6 7",
+        "workers 1; 1 load m f; 2 call 0 0.e 0 1 2 3 4 5 6 7",
+    ),
+    // Names.
+    (
+        b"load _m9 f\ncall 0 _m9..$_Z9",
+        "workers 1; 1 load _m9 f; 2 call 0 0..$_Z9",
+    ),
+    (
+        b"load abcdefghijklmnopqrstuvwxyzABCDEF f",
+        "workers 1; 1 load abcdefghijklmnopqrstuvwxyzABCDEF f",
+    ),
+    (b"load m !~", "workers 1; 1 load m !~"),
+    (
+        b"load load load\ncall 0 load.call\nmove load",
+        "workers 1; 1 load load load; 2 call 0 0.call; 3 move 0",
+    ),
+    (
+        b"load m m.e\ncall 0 m.m.e",
+        "workers 1; 1 load m m.e; 2 call 0 0.m.e",
+    ),
+    // Several modules and workers, in any order before the first step.
+    (
+        b"load m f\nworkers 2\nload n f\ncall 1 n.e\ncall 0 m.e",
+        "workers 2; 1 load m f; 3 load n f; 4 call 1 1.e; 5 call 0 0.e",
+    ),
+    (
+        b"load m f\nload n g\nmove n m\nmove m n\nmove n",
+        "workers 1; 1 load m f; 2 load n g; 3 move 1 0; 4 move 0 1; 5 move 1",
+    ),
+    (
+        b"workers 3\nstack 2\nstack 0\nstack 2",
+        "workers 3; 2 stack 2; 3 stack 0; 4 stack 2",
+    ),
+    (b"stack 0", "workers 1; 1 stack 0"),
+    (
+        b"load m f\nload M f\ncall 0 M.e",
+        "workers 1; 1 load m f; 2 load M f; 3 call 0 1.e",
+    ),
+    (
+        b"load a f\nload b f\nload c f\nload d f\nload e f\nload f f\nload g f\nload h f\nmove h g f e d c b a",
+        "workers 1; 1 load a f; 2 load b f; 3 load c f; 4 load d f; 5 load e f; 6 load f f; 7 load g f; 8 load h f; 9 move 7 6 5 4 3 2 1 0",
+    ),
+    (
+        b"\n# two\nload m f\n\ncall 0 m.e\n",
+        "workers 1; 3 load m f; 5 call 0 0.e",
+    ),
+];
+
+/// Texts that are refused: the line, and the cause.
+const REFUSED: [(&[u8], u64, Cause); 98] = [
+    // A byte is no text: also in comments, behind words and in lines without words.
+    (b"\x00", 1, Cause::NotText),
+    (b"\x1f", 1, Cause::NotText),
+    (b"\x7f", 1, Cause::NotText),
+    (b"\x80", 1, Cause::NotText),
+    (b"\xc3\xa9", 1, Cause::NotText),
+    (b"# \x07", 1, Cause::NotText),
+    (b"\n\n#\xff\n", 3, Cause::NotText),
+    (b"\r\r\n", 1, Cause::NotText),
+    (b"\r\r", 1, Cause::NotText),
+    (b"workers\r2", 1, Cause::NotText),
+    (b"load m f\x0b", 1, Cause::NotText),
+    (b"load\x00m f g", 1, Cause::NotText),
+    // The words are those of no line.
+    (b"loads m f", 1, Cause::Word),
+    (b"Load m f", 1, Cause::Word),
+    (b"run", 1, Cause::Word),
+    (b"workers", 1, Cause::Word),
+    (b"workers 1 2", 1, Cause::Word),
+    (b"load", 1, Cause::Word),
+    (b"load m", 1, Cause::Word),
+    (b"load m # f", 1, Cause::Word),
+    (b"load m #f", 1, Cause::Word),
+    (b"load m f g", 1, Cause::Word),
+    (b"call", 1, Cause::Word),
+    (b"call 0", 1, Cause::Word),
+    (b"move", 1, Cause::Word),
+    (b"stack", 1, Cause::Word),
+    (b"stack 0 1", 1, Cause::Word),
+    // Names in loads and moves.
+    (b"load 1m f", 1, Cause::Word),
+    (b"load m.n f", 1, Cause::Word),
+    (b"load m- f", 1, Cause::Word),
+    (b"load abcdefghijklmnopqrstuvwxyzABCDEFG f", 1, Cause::Word),
+    (b"load m f\nmove 1m", 2, Cause::Word),
+    (b"load m f\nmove m m.e", 2, Cause::Word),
+    (b"move abcdefghijklmnopqrstuvwxyzABCDEFG", 1, Cause::Word),
+    // A bad name is told before too many names, and that before others.
+    (b"move a b c d e f g h 1", 1, Cause::Word),
+    (b"move a b c d e f g h i", 1, Cause::Args),
+    (b"load m f\nmove m m m m m m m m m", 2, Cause::Args),
+    (b"load m f\ncall 0 m.e 0 1 2 3 4 5 6 7 8", 2, Cause::Args),
+    (b"call x y 0 1 2 3 4 5 6 7 z", 1, Cause::Args),
+    // What should stand before the steps.
+    (b"stack 0\nload m f", 2, Cause::LateLoad),
+    (b"stack 0\nworkers 1", 2, Cause::LateLoad),
+    (b"load m f\ncall 0 m.e\nload n f", 3, Cause::LateLoad),
+    (b"load m f\nmove m\nworkers 2", 3, Cause::LateLoad),
+    (b"load m f\nmove m\nload m f", 3, Cause::LateLoad),
+    (b"stack 0\nworkers x", 2, Cause::LateLoad),
+    (b"workers 2\nstack 0\nworkers 2", 3, Cause::LateLoad),
+    (b"stack 0\nload 1m f", 2, Cause::Word),
+    // Numbers.
+    (b"workers 0", 1, Cause::Number),
+    (b"workers 65", 1, Cause::Number),
+    (b"workers x", 1, Cause::Number),
+    (b"workers +1", 1, Cause::Number),
+    (b"workers -1", 1, Cause::Number),
+    (b"workers 0x", 1, Cause::Number),
+    (b"workers 0X1", 1, Cause::Number),
+    (b"workers 0xg", 1, Cause::Number),
+    (b"workers 0x+1", 1, Cause::Number),
+    (b"workers 1f", 1, Cause::Number),
+    (b"workers 18446744073709551617", 1, Cause::Number),
+    (b"workers 0x10000000000000001", 1, Cause::Number),
+    (b"workers 1_0", 1, Cause::Number),
+    (b"workers 2\nworkers 0", 2, Cause::Number),
+    (b"workers 2\nworkers x", 2, Cause::Number),
+    (b"stack x", 1, Cause::Number),
+    (b"stack 18446744073709551616", 1, Cause::Number),
+    (b"load m f\ncall x m.e", 2, Cause::Number),
+    (b"load m f\ncall 0 m.e 1 2 x", 2, Cause::Number),
+    (
+        b"load m f\ncall 0 m.e 18446744073709551616",
+        2,
+        Cause::Number,
+    ),
+    (
+        b"load m f\ncall 0 m.e 0x10000000000000000",
+        2,
+        Cause::Number,
+    ),
+    (b"load m f\ncall 0 m.e -1", 2, Cause::Number),
+    (b"call 9 y x", 1, Cause::Number),
+    // Workers.
+    (b"stack 1", 1, Cause::Worker),
+    (b"workers 2\nstack 2", 2, Cause::Worker),
+    (b"load m f\ncall 1 m.e", 2, Cause::Worker),
+    (b"load m f\nworkers 64\ncall 64 m.e", 3, Cause::Worker),
+    (b"stack 18446744073709551615", 1, Cause::Worker),
+    (b"call 1 y", 1, Cause::Worker),
+    // What is called.
+    (b"call 0 m", 1, Cause::Export),
+    (b"call 0 .e", 1, Cause::Export),
+    (b"call 0 m.", 1, Cause::Export),
+    (b"call 0 1m.e", 1, Cause::Export),
+    (b"call 0 m.e-f", 1, Cause::Export),
+    (b"call 0 m-n.e", 1, Cause::Export),
+    (
+        b"call 0 abcdefghijklmnopqrstuvwxyzABCDEFG.e",
+        1,
+        Cause::Export,
+    ),
+    // Modules that weren't loaded.
+    (b"call 0 m.sum", 1, Cause::Module),
+    (b"load m f\ncall 0 n.e", 2, Cause::Module),
+    (b"load m f\ncall 0 M.e", 2, Cause::Module),
+    (b"load m f\ncall 0 mm.e", 2, Cause::Module),
+    (b"move m", 1, Cause::Module),
+    (b"load m f\nmove m n", 2, Cause::Module),
+    (b"load m f\nmove m m n", 2, Cause::Module),
+    // What was said before.
+    (b"load m sum.o\nload m sum.o", 2, Cause::Duplicate),
+    (b"workers 1\nworkers 1", 2, Cause::Duplicate),
+    (b"load m f\nmove m m", 2, Cause::Duplicate),
+    (b"load m f\nload n f\nmove m n m", 3, Cause::Duplicate),
+    (
+        b"load a f\nload b f\nload c f\nload d f\nload e f\nload f f\nload g f\nload h f\nload a f",
+        9,
+        Cause::Duplicate,
+    ),
+    (
+        b"load a f\nload b f\nload c f\nload d f\nload e f\nload f f\nload g f\nload h f\nload i f",
+        9,
+        Cause::TooMany,
+    ),
+    // The first bad line counts.
+    (b"\nfoo\n\x00\n", 2, Cause::Word),
+    (b"workers 2\nload m f\n\nmove n\nfoo\n", 4, Cause::Module),
+];
+
 #[test]
-fn refuses(rt: HostRuntime) -> Result<(), Fail> {
-    for text in &REFUSED {
-        assert!(rt; !is_script(rt.alloc(), text)?, "{text:?}");
+fn scripts_say_this(rt: HostRuntime) -> Result<(), Fail> {
+    for (text, says) in &SCRIPTS {
+        let script = read_script(rt.alloc(), text);
+        let Ok(script) = script else {
+            return Err("a text of a script was refused".into());
+        };
+        assert_eq!(rt; told(rt.alloc(), &script)?.as_str(), *says, "{text:?}");
     }
     Ok(())
+}
+
+fn refusal(alloc: Global, text: &[u8]) -> Option<ScriptRefusal> {
+    read_script(alloc, text).err()
+}
+
+#[test]
+fn other_texts_are_refused(rt: HostRuntime) -> Result<(), Fail> {
+    for (text, line, cause) in &REFUSED {
+        let at = ScriptRefusal::At {
+            line: *line,
+            cause: *cause,
+        };
+        assert_eq!(rt; refusal(rt.alloc(), text), Some(at), "{text:?}");
+    }
+    Ok(())
+}
+
+/// So many lines that give the one worker a fresh stack, and a last line.
+fn stacks(alloc: Global, count: u64, last: &[u8]) -> Result<Vec<u8>, Fail> {
+    let mut text = Vec::new(alloc);
+    for _ in 0..count {
+        text.extend_from_slice(b"stack 0\n")?;
+    }
+    text.extend_from_slice(last)?;
+    Ok(text)
 }
 
 #[test]
 fn has_at_most_20_000_lines(rt: HostRuntime) -> Result<(), Fail> {
     assert_eq!(rt; SCRIPT_LINES, 20_000);
-    assert!(rt; has_moves(rt.alloc(), 19_999)?);
-    assert!(rt; !has_moves(rt.alloc(), 20_000)?);
+    assert_eq!(rt; ARGUMENTS, 8);
+    let cases: [(u64, &[u8], Option<Cause>); 8] = [
+        (20_000, b"", None),
+        (20_000, b"\r", Some(Cause::TooMany)),
+        (0, b"", None),
+        (19_999, b"stack 0", None),
+        (20_000, b"stack 0", Some(Cause::TooMany)),
+        (20_000, b"\n", Some(Cause::TooMany)),
+        (20_000, b"# x", Some(Cause::TooMany)),
+        (20_000, b"# \x07", Some(Cause::NotText)),
+    ];
+    for (count, last, cause) in cases {
+        let text = stacks(rt.alloc(), count, last)?;
+        let at = cause.map(|cause| ScriptRefusal::At {
+            line: 20_001,
+            cause,
+        });
+        assert_eq!(rt; refusal(rt.alloc(), &text), at, "{last:?}");
+    }
     Ok(())
 }
 
-fn is_call(step: &Step, line: u64, name: &[u8], words: &[u64]) -> bool {
-    match step {
-        Step::Call {
-            worker: 0,
-            module: 0,
-            export,
-            args,
-            ..
-        } => step.line() == line && export.bytes() == name && args.as_slice() == words,
-        _ => false,
+/// A text with so many letters behind it.
+fn with_letters(alloc: Global, text: &[u8], count: u64) -> Result<Vec<u8>, Fail> {
+    let mut longer = Vec::from_slice(alloc, text)?;
+    for _ in 0..count {
+        longer.push(b'e')?;
     }
-}
-
-fn is_move(step: &Step, line: u64) -> bool {
-    match step {
-        Step::Move { modules, .. } => step.line() == line && modules.as_slice() == [0].as_slice(),
-        _ => false,
-    }
+    Ok(longer)
 }
 
 #[test]
-fn reads_each_part(rt: HostRuntime) -> Result<(), Fail> {
-    let text = b"load square examples/square.o\nmove square\n\
-        call 0 square.main.1 007 18446744073709551615\ncall 0 square.e\n";
-    let script = read_script(rt.alloc(), text)?.ok_or("the text is a script")?;
-    assert_eq!(rt; script.workers, 1);
-    let loads = script.loads.as_slice();
-    assert_eq!(rt; loads.len(), 1);
-    assert_eq!(rt; loads[0].line, 1);
-    assert_eq!(rt; loads[0].name.bytes(), b"square".as_slice());
-    law_in_range();
-    assert_eq!(rt; file_text(&loads[0].file), "examples/square.o");
-    let steps = script.steps.as_slice();
-    assert_eq!(rt; steps.len(), 3);
-    assert!(rt; is_move(&steps[0], 2));
-    assert!(rt; is_call(&steps[1], 3, b"main.1", &[7, u64::MAX]));
-    assert!(rt; is_call(&steps[2], 4, b"e", &[]));
+fn names_have_at_most_so_many_bytes(rt: HostRuntime) -> Result<(), Fail> {
+    let cases: [(&[u8], u64, Option<(u64, Cause)>); 6] = [
+        (b"load m f\nmove m\nload ", 1, Some((3, Cause::Word))),
+        (b"load m ", 255, None),
+        (b"load m ", 256, Some((1, Cause::Word))),
+        (b"load m f\ncall 0 m.", 128, None),
+        (b"load m f\ncall 0 m.", 129, Some((2, Cause::Export))),
+        (b"load m f\nmove ", 33, Some((2, Cause::Word))),
+    ];
+    for (text, count, refused) in cases {
+        let longer = with_letters(rt.alloc(), text, count)?;
+        let at = refused.map(|(line, cause)| ScriptRefusal::At { line, cause });
+        assert_eq!(rt; refusal(rt.alloc(), &longer), at, "{text:?}");
+    }
     Ok(())
 }
 
 #[test]
 fn laws_are_called() {
-    law_one_script();
+    law_first_bad_line();
     law_in_range();
-    law_lines();
-    law_most_lines();
+    law_most();
+}
+
+#[test]
+fn causes_are_printed(rt: HostRuntime) -> Result<(), Fail> {
+    let cases = [
+        (Cause::Word, "word"),
+        (Cause::Number, "number"),
+        (Cause::Module, "module"),
+        (Cause::Worker, "worker"),
+        (Cause::Duplicate, "duplicate"),
+        (Cause::LateLoad, "late load"),
+        (Cause::TooMany, "too many"),
+        (Cause::NotText, "not text"),
+        (Cause::Export, "export"),
+        (Cause::Args, "args"),
+    ];
+    for (cause, text) in cases {
+        assert_eq!(rt; format!(in rt.alloc(); "{cause}")?.as_str(), text);
+    }
+    Ok(())
 }
