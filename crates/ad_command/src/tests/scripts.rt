@@ -71,7 +71,7 @@ move b a
 call 0 b.e
 ";
 
-/// Regions and starts are those that the words of ChaCha20 choose at seed 0, from a reckoning of their own.
+/// Regions and starts were worked out from the words of ChaCha20 at seed 0, apart from this program.
 const WHOLE_REPORT: &str = "call 6 w0 a.e at 0 under 6: returned 5
 call 7 w3 b.e at 0 under 8: returned 12258086912
 stack 8 w3: mapping 9
