@@ -1,2 +1,6 @@
+pub mod InRange
+pub mod Kept
+pub mod Lists
+pub mod Reading
 pub mod Spelling
 pub mod Words

@@ -1,5 +1,5 @@
 -- How names and numbers are spelled.
-use Rattle.std.proofs.Common.{◌≡◌, ◌↔◌, ℕ, ◌<◌, ◌≤◌, ◌^◌, ◌&&◌, Bool, true, false, nat_le, nat_lt, ltb, cond, not, ◌==◌, List, [], ◌∷◌, length, Option, Some, None, IfSome, IfNone, IsTrue, refl, sym, ap, ◌∙◌, arith, tests}
+use Rattle.std.proofs.Common.{◌≡◌, ◌↔◌, ℕ, ◌<◌, ◌≤◌, ◌^◌, ◌&&◌, Bool, true, false, nat_le, nat_lt, ltb, cond, not, ◌==◌, List, [], ◌∷◌, length, take, drop, bytes_eq, codes, Option, Some, None, IfSome, IfNone, IsTrue, refl, sym, ap, ◌∙◌, arith, tests}
 use Rattle.std.specs.List.{list_all}
 use Rattle.std.specs.Char.{digit_value, is_digit}
 use Rattle.std.specs.List.{slice_index}
@@ -10,7 +10,7 @@ use Rattle.std.specs.Str.Parse.{AllDigits, IsNumeral, digits_value}
 use Rattle.std.proofs.lemmas.Bool.{and_parts, leb-true, ltb-true, lt-ltb, ltb-false}
 use Rattle.std.proofs.lemmas.List.Sums.{AllPass-from_list_all, list_all-from_AllPass}
 use Rattle.ad_base.specs.ExportName.{IsExportName, is_export_byte}
-use Rattle.ad_script.specs.Forms.{is_export_name, is_file_name, is_graphic, number_in}
+use Rattle.ad_script.specs.Forms.{is_export_name, is_file_name, is_graphic, number_in, number_of}
 
 -- two tests that hold of each other are one
 same-test : (a b : Bool) → (a ≡ true → b ≡ true) → (b ≡ true → a ≡ true) → a ≡ b
@@ -76,3 +76,12 @@ graphic-ascii (b ∷ bytes) e =
 pub file-name-ascii : (name : List ℕ) → is_file_name name ≡ true → IsAscii name
 unfolding is_file_name
 file-name-ascii name e = graphic-ascii name (and_parts (nat_lt 0 (length name) && nat_le (length name) 255 && not (slice_index name 0 == 0x23)) _ e).1
+
+-- the number that a word says, by its first two bytes
+pub hexadecimal : (word digits : List ℕ) → bytes_eq (take 2 word) (codes "0x") ≡ true → digits ≡ drop 2 word → number_in 16 digits ≡ number_of word
+unfolding number_of
+hexadecimal word digits front is = rw (front, is) refl
+
+pub decimal_number : (word : List ℕ) → bytes_eq (take 2 word) (codes "0x") ≡ false → number_in 10 word ≡ number_of word
+unfolding number_of
+decimal_number word front = rw front refl

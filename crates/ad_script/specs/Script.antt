@@ -116,8 +116,8 @@ text_cause number text = first_cause (
     ∷ (is_none (form_of (words_of text)), Word)
     ∷ [])
 
-unfoldable pub form_cause : Said → Form → Option Cause
-form_cause said form = first_cause (
+abbrev pub form_sentences : Said → Form → List (Bool × Cause)
+form_sentences said form =
     (has_bad_name form, Word)
     ∷ (has_too_many form, Args)
     ∷ (is_late said form, LateLoad)
@@ -127,7 +127,10 @@ form_cause said form = first_cause (
     ∷ (lacks_module said form, Module)
     ∷ (repeats said form, Duplicate)
     ∷ (is_past_last_load said form, TooMany)
-    ∷ [])
+    ∷ []
+
+unfoldable pub form_cause : Said → Form → Option Cause
+form_cause said form = first_cause (form_sentences said form)
 
 -- What was said once a line of this number says its own, of which no sentence holds.
 abbrev pub number_of_module : Said → List ℕ → ℕ

@@ -10,9 +10,14 @@ pub enum Form<'a> {
     /// Nothing.
     Blank,
     /// There are so many workers.
-    Workers { count: &'a [u8] },
+    Workers {
+        count: &'a [u8],
+    },
     /// A module is loaded from a file.
-    Load { name: &'a [u8], file: &'a [u8] },
+    Load {
+        name: &'a [u8],
+        file: &'a [u8],
+    },
     /// A worker calls an export of a module.
     Call {
         worker: &'a [u8],
@@ -20,9 +25,13 @@ pub enum Form<'a> {
         args: &'a [&'a [u8]],
     },
     /// Modules are moved.
-    Move { names: &'a [&'a [u8]] },
+    Move {
+        names: &'a [&'a [u8]],
+    },
     /// A worker gets a fresh stack.
-    Stack { worker: &'a [u8] },
+    Stack {
+        worker: &'a [u8],
+    },
 }
 
 /// The form of these words, or `None` where the first is unknown, or a word is missing or too many.

@@ -1,8 +1,9 @@
 //! The numbers that words say.
 
-ghost use Rattle.std.specs.Prelude.{◌≡◌, ◌≤◌, ◌⊎◌, MatchOption, map, length, true, false};
+ghost use Rattle.std.specs.Prelude.{◌≡◌, ◌<◌, ◌≤◌, ◌^◌, ◌⊎◌, IfNone, IfSome, MatchOption, map, length, true, false};
+ghost use Rattle.std.specs.Str.Parse.{IsNumeral, digits_value};
 ghost use Rattle.std.specs.List.{list_any};
-ghost use Rattle.ad_script.specs.Forms.{number_in, number_of};
+ghost use Rattle.ad_script.specs.Forms.{number_of};
 ghost use Rattle.ad_script.specs.Private.Seen.{texts};
 ghost use Rattle.ad_script.specs.Script.{is_bad_number, number_or_0};
 ghost use Rattle.ad_script.specs.declared.script.TheConstants.{ARGUMENTS};
@@ -10,7 +11,6 @@ ghost use Rattle.ad_script.specs.declared.script.TheConstants.{ARGUMENTS};
 use ad_base::Args;
 
 /// The number below 2^64 that a word says: by decimal digits, or by `0x` and hexadecimal ones.
-#[tactic(auto, unfolding(crate::specs::Forms::number_of))]
 pub fn number_of(word: &[u8]) -> Option<u64>
     ensures { result ≡ number_of word.now }
 {
@@ -23,7 +23,8 @@ pub fn number_of(word: &[u8]) -> Option<u64>
 /// Reads digits alone, whose number is below 2^64.
 fn number_in(radix: u32, digits: &[u8]) -> Option<u64>
     requires { (radix ≡ 10) ⊎ (radix ≡ 16) }
-    ensures { result ≡ number_in radix digits.now }
+    ensures form { IfSome result (λ n. IsNumeral radix digits.now × (digits_value radix digits.now ≡ n) × (n < 2 ^ 64)) }
+    ensures none { IfNone result (IsNumeral radix digits.now → digits_value radix digits.now < 2 ^ 64 → ⊥) }
 {
     // The library takes a plus.
     if let [b'+', ..] = digits {

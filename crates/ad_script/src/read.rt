@@ -3,7 +3,7 @@
 ghost use Rattle.std.specs.Prelude.{◌≡◌, ◌⊎◌, IfErr, IfOk, Err, Ok};
 ghost use Rattle.ad_script.specs.Script.{script_of};
 
-use crate::refusal::{LineFault, ScriptRefusal};
+use crate::refusal::ScriptRefusal;
 use crate::said::Reading;
 use crate::script::Script;
 use crate::text::cut_line;
@@ -20,16 +20,9 @@ pub fn read_script(alloc: Global, bytes: &[u8]) -> Result<Script, ScriptRefusal>
     while !rest.is_empty() {
         let cut = cut_line(rest);
         match reading.read_line(alloc, number, cut.before) {
-            Ok(()) => {}
-            Err(LineFault::Refused(cause)) => {
-                return Err(ScriptRefusal::At {
-                    line: number,
-                    cause,
-                });
-            }
-            Err(LineFault::OutOfMemory) => return Err(ScriptRefusal::OutOfMemory),
+            Ok(()) => number += 1,
+            Err(fault) => return Err(fault.at(number)),
         }
-        number += 1;
         rest = cut.after;
     }
     Ok(reading.into_script())

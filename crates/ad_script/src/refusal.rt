@@ -78,6 +78,21 @@ pub(crate) enum LineFault {
     OutOfMemory,
 }
 
+impl LineFault {
+    ghost use Rattle.std.specs.Prelude.{◌≡◌};
+    ghost use Rattle.ad_script.specs.Private.Seen.{refusal_at};
+
+    /// The refusal of the script, where this is the fault of the line of this number.
+    pub fn at(self, line: u64) -> ScriptRefusal
+        ensures { result ≡ refusal_at line self }
+    {
+        match self {
+            LineFault::Refused(cause) => ScriptRefusal::At { line, cause },
+            LineFault::OutOfMemory => ScriptRefusal::OutOfMemory,
+        }
+    }
+}
+
 impl From<OutOfMemory> for LineFault {
     ghost use Rattle.std.specs.Prelude.{◌≡◌};
     ghost use Rattle.ad_script.specs.declared.refusal.LineFault.TheVariants.{OutOfMemory};

@@ -1,9 +1,10 @@
 //! What the lines of a script say together.
 
-ghost use Rattle.std.specs.Prelude.{◌≡◌, ◌≤◌, bytes_eq, ◌++◌, ◌∷◌, [], Some, MatchOption, option_map, length, map, Ok, true, false};
+ghost use Rattle.std.specs.Prelude.{◌≡◌, ◌≤◌, bytes_eq, IfOk, ◌++◌, ◌∷◌, [], Some, MatchOption, option_map, length, map, Ok, true, false};
 ghost use Rattle.std.specs.List.{list_all, list_any};
 ghost use Rattle.ad_script.specs.Forms.{Calls, Loads, Moves, Stacks, Workers, is_module_name};
 ghost use Rattle.ad_script.specs.Private.Seen.{Comes, form_seen, said_seen, texts};
+ghost use Rattle.ad_script.specs.declared.script.TheConstants.{SCRIPT_LINES};
 ghost use Rattle.ad_script.specs.Script.{after_form, after_line, has_repeats, is_loaded, module_number, nothing_said, number_of_module, script_said, with_step, workers_of};
 
 use crate::forms::{Form, form_of};
@@ -49,7 +50,8 @@ impl Reading {
     /// Reads the line of this number.
     #[tactic(auto, unfolding(crate::specs::Script::after_line, crate::specs::Script::text_cause))]
     pub fn read_line(&mut self, alloc: Global, number: u64, line: &[u8]) -> Result<(), LineFault>
-        ensures { Comes (λ _ said. said ≡ said_seen self.new) result (after_line (said_seen self.old) number line.now) }
+        ensures line { Comes (λ _ said. said ≡ said_seen self.new) result (after_line (said_seen self.old) number line.now) }
+        ensures few { IfOk result (λ _. number ≤ SCRIPT_LINES) }
     {
         let text = without_return(line);
         if !is_text(text) {
@@ -123,7 +125,13 @@ impl Reading {
 
     /// The module that a line loads.
     #[tactic(auto, unfolding(crate::specs::Script::form_cause, crate::specs::Script::with_form))]
-    fn load_of(&self, alloc: Global, number: u64, name: &[u8], file: &[u8]) -> Result<Load, LineFault>
+    fn load_of(
+        &self,
+        alloc: Global,
+        number: u64,
+        name: &[u8],
+        file: &[u8],
+    ) -> Result<Load, LineFault>
         ensures { Comes (λ l said. said ≡ record (said_seen self.now) { loads = self.now.loads.items ++ l ∷ [] }) result (after_form (said_seen self.now) number (Loads name.now file.now)) }
     {
         if !is_module_name(name) || !is_file_name(file) {
@@ -228,9 +236,7 @@ impl Reading {
     fn module_number(&self, name: &[u8]) -> Option<usize>
         ensures { result ≡ module_number self.now.loads.items name.now }
     {
-        self.loads
-            .iter()
-            .position(|load| load.name.bytes() == name)
+        self.loads.iter().position(|load| load.name.bytes() == name)
     }
 
     /// The numbers of the modules of so many names, or `None` where one wasn't loaded.

@@ -1,8 +1,8 @@
 //! Texts that are scripts, with what they say, and texts that are refused, each with its line and its cause.
 
 use crate::{
-    ARGUMENTS, Cause, Load, SCRIPT_LINES, Script, ScriptRefusal, Step, file_text, law_in_range,
-    law_most, read_script,
+    ARGUMENTS, Cause, Load, SCRIPT_LINES, Script, ScriptRefusal, Step, law_in_range, law_most,
+    read_script,
 };
 use std::alloc::Global;
 use std::fmt::Write;
@@ -77,23 +77,62 @@ const SCRIPTS: [(&[u8], &str); 36] = [
     (b"workers 64", "workers 64"),
     (b"workers 0x40", "workers 64"),
     (b"workers 000000000000000000000000000064", "workers 64"),
-    (b"workers 0x00000000000000000000000000000000002a", "workers 42"),
-    (b"load m f\ncall 0x0 m.e 18446744073709551615 0xffffffffFFFFFFFF 0xaB 007", "workers 1; 1 load m f; 2 call 0 0.e 18446744073709551615 18446744073709551615 171 7"),
-    (b"load m f\ncall 0 m.e 0 1 2 3 4 5 6 7", "workers 1; 1 load m f; 2 call 0 0.e 0 1 2 3 4 5 6 7"),
+    (
+        b"workers 0x00000000000000000000000000000000002a",
+        "workers 42",
+    ),
+    (
+        b"load m f\ncall 0x0 m.e 18446744073709551615 0xffffffffFFFFFFFF 0xaB 007",
+        "workers 1; 1 load m f; 2 call 0 0.e 18446744073709551615 18446744073709551615 171 7",
+    ),
+    (
+        b"load m f\ncall 0 m.e 0 1 2 3 4 5 6 7",
+        "workers 1; 1 load m f; 2 call 0 0.e 0 1 2 3 4 5 6 7",
+    ),
     // Names.
-    (b"load _m9 f\ncall 0 _m9..$_Z9", "workers 1; 1 load _m9 f; 2 call 0 0..$_Z9"),
-    (b"load abcdefghijklmnopqrstuvwxyzABCDEF f", "workers 1; 1 load abcdefghijklmnopqrstuvwxyzABCDEF f"),
+    (
+        b"load _m9 f\ncall 0 _m9..$_Z9",
+        "workers 1; 1 load _m9 f; 2 call 0 0..$_Z9",
+    ),
+    (
+        b"load abcdefghijklmnopqrstuvwxyzABCDEF f",
+        "workers 1; 1 load abcdefghijklmnopqrstuvwxyzABCDEF f",
+    ),
     (b"load m !~", "workers 1; 1 load m !~"),
-    (b"load load load\ncall 0 load.call\nmove load", "workers 1; 1 load load load; 2 call 0 0.call; 3 move 0"),
-    (b"load m m.e\ncall 0 m.m.e", "workers 1; 1 load m m.e; 2 call 0 0.m.e"),
+    (
+        b"load load load\ncall 0 load.call\nmove load",
+        "workers 1; 1 load load load; 2 call 0 0.call; 3 move 0",
+    ),
+    (
+        b"load m m.e\ncall 0 m.m.e",
+        "workers 1; 1 load m m.e; 2 call 0 0.m.e",
+    ),
     // Several modules and workers, in any order before the first step.
-    (b"load m f\nworkers 2\nload n f\ncall 1 n.e\ncall 0 m.e", "workers 2; 1 load m f; 3 load n f; 4 call 1 1.e; 5 call 0 0.e"),
-    (b"load m f\nload n g\nmove n m\nmove m n\nmove n", "workers 1; 1 load m f; 2 load n g; 3 move 1 0; 4 move 0 1; 5 move 1"),
-    (b"workers 3\nstack 2\nstack 0\nstack 2", "workers 3; 2 stack 2; 3 stack 0; 4 stack 2"),
+    (
+        b"load m f\nworkers 2\nload n f\ncall 1 n.e\ncall 0 m.e",
+        "workers 2; 1 load m f; 3 load n f; 4 call 1 1.e; 5 call 0 0.e",
+    ),
+    (
+        b"load m f\nload n g\nmove n m\nmove m n\nmove n",
+        "workers 1; 1 load m f; 2 load n g; 3 move 1 0; 4 move 0 1; 5 move 1",
+    ),
+    (
+        b"workers 3\nstack 2\nstack 0\nstack 2",
+        "workers 3; 2 stack 2; 3 stack 0; 4 stack 2",
+    ),
     (b"stack 0", "workers 1; 1 stack 0"),
-    (b"load m f\nload M f\ncall 0 M.e", "workers 1; 1 load m f; 2 load M f; 3 call 0 1.e"),
-    (b"load a f\nload b f\nload c f\nload d f\nload e f\nload f f\nload g f\nload h f\nmove h g f e d c b a", "workers 1; 1 load a f; 2 load b f; 3 load c f; 4 load d f; 5 load e f; 6 load f f; 7 load g f; 8 load h f; 9 move 7 6 5 4 3 2 1 0"),
-    (b"\n# two\nload m f\n\ncall 0 m.e\n", "workers 1; 3 load m f; 5 call 0 0.e"),
+    (
+        b"load m f\nload M f\ncall 0 M.e",
+        "workers 1; 1 load m f; 2 load M f; 3 call 0 1.e",
+    ),
+    (
+        b"load a f\nload b f\nload c f\nload d f\nload e f\nload f f\nload g f\nload h f\nmove h g f e d c b a",
+        "workers 1; 1 load a f; 2 load b f; 3 load c f; 4 load d f; 5 load e f; 6 load f f; 7 load g f; 8 load h f; 9 move 7 6 5 4 3 2 1 0",
+    ),
+    (
+        b"\n# two\nload m f\n\ncall 0 m.e\n",
+        "workers 1; 3 load m f; 5 call 0 0.e",
+    ),
 ];
 
 /// Texts that are refused: the line, and the cause.
@@ -170,8 +209,16 @@ const REFUSED: [(&[u8], u64, Cause); 98] = [
     (b"stack 18446744073709551616", 1, Cause::Number),
     (b"load m f\ncall x m.e", 2, Cause::Number),
     (b"load m f\ncall 0 m.e 1 2 x", 2, Cause::Number),
-    (b"load m f\ncall 0 m.e 18446744073709551616", 2, Cause::Number),
-    (b"load m f\ncall 0 m.e 0x10000000000000000", 2, Cause::Number),
+    (
+        b"load m f\ncall 0 m.e 18446744073709551616",
+        2,
+        Cause::Number,
+    ),
+    (
+        b"load m f\ncall 0 m.e 0x10000000000000000",
+        2,
+        Cause::Number,
+    ),
     (b"load m f\ncall 0 m.e -1", 2, Cause::Number),
     (b"call 9 y x", 1, Cause::Number),
     // Workers.
@@ -188,7 +235,11 @@ const REFUSED: [(&[u8], u64, Cause); 98] = [
     (b"call 0 1m.e", 1, Cause::Export),
     (b"call 0 m.e-f", 1, Cause::Export),
     (b"call 0 m-n.e", 1, Cause::Export),
-    (b"call 0 abcdefghijklmnopqrstuvwxyzABCDEFG.e", 1, Cause::Export),
+    (
+        b"call 0 abcdefghijklmnopqrstuvwxyzABCDEFG.e",
+        1,
+        Cause::Export,
+    ),
     // Modules that weren't loaded.
     (b"call 0 m.sum", 1, Cause::Module),
     (b"load m f\ncall 0 n.e", 2, Cause::Module),
@@ -202,8 +253,16 @@ const REFUSED: [(&[u8], u64, Cause); 98] = [
     (b"workers 1\nworkers 1", 2, Cause::Duplicate),
     (b"load m f\nmove m m", 2, Cause::Duplicate),
     (b"load m f\nload n f\nmove m n m", 3, Cause::Duplicate),
-    (b"load a f\nload b f\nload c f\nload d f\nload e f\nload f f\nload g f\nload h f\nload a f", 9, Cause::Duplicate),
-    (b"load a f\nload b f\nload c f\nload d f\nload e f\nload f f\nload g f\nload h f\nload i f", 9, Cause::TooMany),
+    (
+        b"load a f\nload b f\nload c f\nload d f\nload e f\nload f f\nload g f\nload h f\nload a f",
+        9,
+        Cause::Duplicate,
+    ),
+    (
+        b"load a f\nload b f\nload c f\nload d f\nload e f\nload f f\nload g f\nload h f\nload i f",
+        9,
+        Cause::TooMany,
+    ),
     // The first bad line counts.
     (b"\nfoo\n\x00\n", 2, Cause::Word),
     (b"workers 2\nload m f\n\nmove n\nfoo\n", 4, Cause::Module),
@@ -233,6 +292,65 @@ fn other_texts_are_refused(rt: HostRuntime) -> Result<(), Fail> {
             cause: *cause,
         };
         assert_eq!(rt; refusal(rt.alloc(), text), Some(at), "{text:?}");
+    }
+    Ok(())
+}
+
+/// So many lines that give the one worker a fresh stack, and a last line.
+fn stacks(alloc: Global, count: u64, last: &[u8]) -> Result<Vec<u8>, Fail> {
+    let mut text = Vec::new(alloc);
+    for _ in 0..count {
+        text.extend_from_slice(b"stack 0\n")?;
+    }
+    text.extend_from_slice(last)?;
+    Ok(text)
+}
+
+#[test]
+fn has_at_most_20_000_lines(rt: HostRuntime) -> Result<(), Fail> {
+    assert_eq!(rt; SCRIPT_LINES, 20_000);
+    assert_eq!(rt; ARGUMENTS, 8);
+    let cases: [(u64, &[u8], Option<Cause>); 6] = [
+        (20_000, b"", None),
+        (19_999, b"stack 0", None),
+        (20_000, b"stack 0", Some(Cause::TooMany)),
+        (20_000, b"\n", Some(Cause::TooMany)),
+        (20_000, b"# x", Some(Cause::TooMany)),
+        (20_000, b"# \x07", Some(Cause::NotText)),
+    ];
+    for (count, last, cause) in cases {
+        let text = stacks(rt.alloc(), count, last)?;
+        let at = cause.map(|cause| ScriptRefusal::At {
+            line: 20_001,
+            cause,
+        });
+        assert_eq!(rt; refusal(rt.alloc(), &text), at, "{last:?}");
+    }
+    Ok(())
+}
+
+#[test]
+fn laws_are_called() {
+    law_in_range();
+    law_most();
+}
+
+#[test]
+fn causes_are_printed(rt: HostRuntime) -> Result<(), Fail> {
+    let cases = [
+        (Cause::Word, "word"),
+        (Cause::Number, "number"),
+        (Cause::Module, "module"),
+        (Cause::Worker, "worker"),
+        (Cause::Duplicate, "duplicate"),
+        (Cause::LateLoad, "late load"),
+        (Cause::TooMany, "too many"),
+        (Cause::NotText, "not text"),
+        (Cause::Export, "export"),
+        (Cause::Args, "args"),
+    ];
+    for (cause, text) in cases {
+        assert_eq!(rt; format!(in rt.alloc(); "{cause}")?.as_str(), text);
     }
     Ok(())
 }

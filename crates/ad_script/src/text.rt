@@ -3,7 +3,7 @@
 ghost use Rattle.std.specs.Prelude.{◌≡◌, ◌<◌, ℕ, Bool, length, IfOk, IfSome, position};
 ghost use Rattle.std.specs.List.{after_first, before_first, list_all};
 ghost use Rattle.ad_script.specs.Forms.{is_dot};
-ghost use Rattle.ad_script.specs.Lines.{is_blank, is_line_end, is_text_byte, without_return, words_of};
+ghost use Rattle.ad_script.specs.Lines.{is_blank, is_comment, is_line_end, is_text_byte, without_return, words_of};
 ghost use Rattle.ad_script.specs.Private.Seen.{texts};
 
 use ad_base::OutOfMemory;
@@ -112,7 +112,7 @@ pub fn words_of(alloc: Global, text: &[u8]) -> Result<Vec<&[u8]>, OutOfMemory>
     let mut rest = text;
     while !rest.is_empty() {
         let Cut { before, after } = cut_word(rest);
-        if let [b'#', ..] = before {
+        if is_comment(before) {
             return Ok(words);
         }
         if !before.is_empty() {
@@ -121,4 +121,11 @@ pub fn words_of(alloc: Global, text: &[u8]) -> Result<Vec<&[u8]>, OutOfMemory>
         rest = after;
     }
     Ok(words)
+}
+
+/// Tests for a word that begins a comment.
+fn is_comment(word: &[u8]) -> bool
+    ensures { result ≡ is_comment word.now }
+{
+    matches!(word, [b'#', ..])
 }

@@ -6,6 +6,8 @@ use Rattle.ad_script.specs.declared.forms.Form.TheVariants as variants
 use Rattle.ad_script.specs.declared.refusal.Cause.{Cause}
 use Rattle.ad_script.specs.declared.refusal.LineFault.{LineFault}
 use Rattle.ad_script.specs.declared.refusal.LineFault.TheVariants.{Refused, OutOfMemory}
+use Rattle.ad_script.specs.declared.refusal.ScriptRefusal.{ScriptRefusal}
+use Rattle.ad_script.specs.declared.refusal.ScriptRefusal.TheVariants as refusal
 use Rattle.ad_script.specs.declared.said.Reading.{Reading}
 use Rattle.ad_script.specs.Forms.{Blank, Calls, Form, Loads, Moves, Stacks, Workers}
 use Rattle.ad_script.specs.Script.{Said}
@@ -33,3 +35,8 @@ Comes same (Ok a) (Ok b) = same a b
 Comes same (Ok a) (Err cause) = ⊥
 Comes same (Err (Refused cause)) outcome = outcome ≡ Err cause
 Comes same (Err OutOfMemory) outcome = Unit {0}
+
+-- the refusal of the script at the line of this number
+abbrev pub refusal_at : ℕ → LineFault → ScriptRefusal
+refusal_at line (Refused cause) = refusal.At line cause
+refusal_at line OutOfMemory = refusal.OutOfMemory
