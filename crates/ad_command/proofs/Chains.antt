@@ -10,10 +10,9 @@ use Rattle.ad_base.specs.declared.place.Place.{Place}
 use Rattle.ad_reloc.specs.Image.{IsImage}
 use Rattle.ad_reloc.proofs.OneImage.{one_image}
 use Rattle.ad_reloc.proofs.OneImage as image
-use Rattle.ad_script.proofs.OneScript.{one_script}
 use Rattle.ad_command.specs.declared.trouble.Trouble.{Trouble}
 use Rattle.ad_command.specs.declared.trouble.Trouble.TheVariants.{Memory, Read}
-use Rattle.ad_command.specs.Chain.{AreTold, Ask, Chain, Done, Gives, ImageAt, IsVerdict, Judge, MayEnd, ModuleFile, Question, Refuse, ScriptText, Serves, Verdict, ◌>>=◌}
+use Rattle.ad_command.specs.Chain.{AreTold, Ask, Chain, Done, Gives, ImageAt, IsVerdict, Judge, MayEnd, ModuleFile, Question, Refuse, Serves, Verdict, ◌>>=◌}
 
 -- memory may be wanting at any step
 pub memory : {A : Type 0} (told : Told) (n : ℕ) (c : Chain A) → MayEnd told n n c [] (Err Memory)
@@ -122,10 +121,6 @@ image-or-refused p fixed i refusal.OutOfMemory h k = k
 
 -- a question has one verdict
 pub one_verdict : (q : Question) (v w : Verdict q) → IsVerdict q v → IsVerdict q w → v ≡ w
-one_verdict (ScriptText bytes) (Ok s) (Ok t) h k = ap Ok (one_script bytes s t h k)
-one_verdict (ScriptText bytes) (Ok s) (Err wrong) h k = absurd (k s h)
-one_verdict (ScriptText bytes) (Err wrong) (Ok t) h k = absurd (h t k)
-one_verdict (ScriptText bytes) (Err wrong) (Err other) h k = refl
 one_verdict (ModuleFile bytes) (Ok p) (Ok q) h k = ap Ok (one_plan bytes p q h k)
 one_verdict (ModuleFile bytes) (Ok p) (Err r) h k = absurd (not_both bytes p r h k)
 one_verdict (ModuleFile bytes) (Err r) (Ok p) h k = absurd (not_both bytes p r k h)

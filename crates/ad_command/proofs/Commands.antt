@@ -10,7 +10,7 @@ use Rattle.ad_command.specs.declared.trouble.Trouble.TheVariants.{Memory, NoExpo
 use Rattle.ad_command.specs.Chain.{Chain, Done, Serves, ◌>>=◌, given, judged}
 use Rattle.ad_command.specs.Command.{Job, Shown, Work, command, job_in, job_of, shown_in, work_of}
 use Rattle.ad_command.specs.Ending.{Ending, IsDone}
-use Rattle.ad_command.specs.Loading.{loaded_images, module_of, script_of}
+use Rattle.ad_command.specs.Loading.{loaded_images, module_of, script_in}
 use Rattle.ad_words.specs.Words.{Command, Show, command_of}
 use Rattle.ad_command.proofs.Chains.{serves-behind, serves-done, serves-memory, serves-refuse, serves-refused}
 
@@ -34,16 +34,16 @@ module _ (operand : List ℕ) (seed fuel : ℕ) where
 
   module _ (old : Outside) where
     -- the script is refused
-    pub job-unread : (new : Outside) (t : Trouble) → Serves old new (script_of operand) (Err t) → Serves old new (job_in operand seed fuel) (Err t)
+    pub job-unread : (new : Outside) (t : Trouble) → Serves old new (script_in operand) (Err t) → Serves old new (job_in operand seed fuel) (Err t)
     unfolding job_in job_of
-    job-unread new t first = serves-refused old new (script_of operand) (λ script. loaded_images module_of seed script >>= then_of script) t first
+    job-unread new t first = serves-refused old new (script_in operand) (λ script. loaded_images module_of seed script >>= then_of script) t first
 
-    module _ (mid : Outside) (script : Script) (first : Serves old mid (script_of operand) (Ok script)) where
+    module _ (mid : Outside) (script : Script) (first : Serves old mid (script_in operand) (Ok script)) where
       -- a module is refused
       pub job-unloaded : (new : Outside) (t : Trouble) → Serves mid new (loaded_images module_of seed script) (Err t) → Serves old new (job_in operand seed fuel) (Err t)
       unfolding job_in job_of
       job-unloaded new t second =
-          serves-behind old mid new (script_of operand) (λ s. loaded_images module_of seed s >>= then_of s) script (Err t) first
+          serves-behind old mid new (script_in operand) (λ s. loaded_images module_of seed s >>= then_of s) script (Err t) first
           (serves-refused mid new (loaded_images module_of seed script) (then_of script) t second)
 
       -- modules and script are there
@@ -51,7 +51,7 @@ module _ (operand : List ℕ) (seed fuel : ℕ) where
         job-goes : (r : Result Job Trouble) → Serves new new (then_of script images) r → Serves old new (job_in operand seed fuel) r
         unfolding job_in job_of
         job-goes r third =
-            serves-behind old mid new (script_of operand) (λ s. loaded_images module_of seed s >>= then_of s) script r first
+            serves-behind old mid new (script_in operand) (λ s. loaded_images module_of seed s >>= then_of s) script r first
             (serves-behind mid new new (loaded_images module_of seed script) (then_of script) images r second third)
 
         pub job-ready : (steps : List ReadyStep) → ready_steps images script.steps ≡ Ok steps → Serves old new (job_in operand seed fuel) (Ok (job script images steps))

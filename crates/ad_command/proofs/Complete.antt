@@ -11,13 +11,13 @@ use Rattle.ad_lines.specs.declared.ready.ReadyStep.{ReadyStep}
 use Rattle.ad_lines.specs.Ready.{ready_steps}
 use Rattle.ad_script.specs.declared.script.Load.{Load}
 use Rattle.ad_script.specs.declared.script.Script.{Script}
-use Rattle.ad_script.specs.Script.{IsScript}
+use Rattle.ad_script.specs.Script.{script_of}
 use Rattle.ad_command.specs.declared.trouble.Trouble.{Trouble}
-use Rattle.ad_command.specs.declared.trouble.Trouble.TheVariants.{BadScript, NoExport, TooLarge, Usage}
-use Rattle.ad_command.specs.Chain.{Chain, Done, Gives, ImageAt, Judge, ModuleFile, Refuse, ScriptText, ◌>>=◌, each_in_turn, given, judged}
+use Rattle.ad_command.specs.declared.trouble.Trouble.TheVariants.{NoExport, TooLarge, Usage}
+use Rattle.ad_command.specs.Chain.{Chain, Done, Gives, ImageAt, Judge, ModuleFile, Refuse, ◌>>=◌, each_in_turn, given, judged}
 use Rattle.ad_command.specs.Command.{Job, Lines, Predicted, Shown, Work, command, job_in, job_of, shown_at, shown_in, work_of}
-use Rattle.ad_command.specs.Loading.{AreLinked, IsLinked, file_of, fixed_behind, image_at, loaded_image, loaded_images, module_of, script_of}
-use Rattle.ad_command.specs.Trouble.{refused_module}
+use Rattle.ad_command.specs.Loading.{AreLinked, IsLinked, file_of, fixed_behind, image_at, loaded_image, loaded_images, module_of, script_in}
+use Rattle.ad_command.specs.Trouble.{refused_module, refused_script}
 use Rattle.ad_words.specs.Words.{Command, Predict, Seq, Show, command_of}
 use Rattle.ad_command.proofs.Chains.{gives-behind, gives-last}
 
@@ -29,9 +29,9 @@ module _ (files : List ℕ → List ℕ) where
   unfolding file_of
   file-gives name short = ([], refl, file-by FILE_BYTES name short)
 
-  script-gives : (name : List ℕ) (s : Script) → length (files name) ≤ FILE_BYTES → IsScript (files name) s → Gives files (script_of name) (name ∷ []) (Ok s)
-  unfolding script_of
-  script-gives name s short is = gives-behind files (file_of name) (λ text. Judge (ScriptText text) (judged (λ wrong. BadScript))) (name ∷ []) [] (files name) (Ok s) (file-gives name short) (Ok s, is, (refl, refl))
+  script-gives : (name : List ℕ) (s : Script) → length (files name) ≤ FILE_BYTES → script_of (files name) ≡ Ok s → Gives files (script_in name) (name ∷ []) (Ok s)
+  unfolding script_in
+  script-gives name s short is = gives-behind files (file_of name) (λ text. judged refused_script (script_of text)) (name ∷ []) [] (files name) (Ok s) (file-gives name short) (rw is (refl, refl))
 
   pub module-gives : (name : List ℕ) (p : Planned) → length (files name) ≤ FILE_BYTES → IsPlan (files name) p → Gives files (module_of name) (name ∷ []) (Ok p)
   unfolding module_of
@@ -77,9 +77,9 @@ module _ (files : List ℕ → List ℕ) where
         let last : Gives files (then_of images) [] (Ok done) = subst (λ r. Gives files (judged NoExport r >>= λ ss. Done (record { seed = seed; fuel = fuel; script = s; images = images; steps = ss })) [] (Ok done)) (sym ready) (refl, refl) in
         gives-last files (loaded_images module_of seed s) then_of more images (Ok done) loaded last
 
-    in-gives : Gives files (script_of operand) (operand ∷ []) (Ok s) → Gives files (job_of module_of s seed fuel) more (Ok done) → Gives files (job_in operand seed fuel) (operand ∷ more) (Ok done)
+    in-gives : Gives files (script_in operand) (operand ∷ []) (Ok s) → Gives files (job_of module_of s seed fuel) more (Ok done) → Gives files (job_in operand seed fuel) (operand ∷ more) (Ok done)
     unfolding job_in
-    in-gives script job = gives-behind files (script_of operand) (λ x. job_of module_of x seed fuel) (operand ∷ []) more s (Ok done) script job
+    in-gives script job = gives-behind files (script_in operand) (λ x. job_of module_of x seed fuel) (operand ∷ []) more s (Ok done) script job
 
 -- words that are a command
 by-words : (files : List ℕ → List ℕ) (words : List (List ℕ)) (c : Command) (names : List (List ℕ)) (r : Result Work Trouble) → command_of words ≡ Some c → Gives files (work_of c) names r → Gives files (command words) names r
@@ -87,7 +87,7 @@ unfolding command
 by-words files words c names r is gives = subst (λ x. Gives files (given Usage x >>= work_of) names r) (sym is) gives
 
 module _ (files : List ℕ → List ℕ) (words : List (List ℕ)) (operand : List ℕ) (seed fuel : ℕ) (s : Script) (images : List Image) (steps : List ReadyStep)
-    (short : length (files operand) ≤ FILE_BYTES) (script : IsScript (files operand) s)
+    (short : length (files operand) ≤ FILE_BYTES) (script : script_of (files operand) ≡ Ok s)
     (right : AreLinked files seed s.workers [] s.loads images) (ready : ready_steps images s.steps ≡ Ok steps) where
   abbrev names : List (List ℕ)
   names = map (λ (l : Load). l.file) s.loads

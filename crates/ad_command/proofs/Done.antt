@@ -18,7 +18,7 @@ use Rattle.ad_lines.proofs.RunLaws.{books-lawful, calls-made, clear-replies, ima
 use Rattle.ad_lines.proofs.Stale.{sound-run}
 use Rattle.ad_relate.specs.ClearHistory.{RepliesAsReplayed}
 use Rattle.ad_report.specs.Report.{AreMovesInOrder}
-use Rattle.ad_script.specs.Script.{IsInRange}
+use Rattle.ad_script.specs.Range.{IsInRange}
 use Rattle.ad_command.specs.Command.{Job}
 use Rattle.ad_command.specs.Ending.{Ending, IsLineRun, IsSoundRun, chosen_places, is_by, opening_of_job, run_of_job, unframed}
 use Rattle.ad_command.proofs.Jobs.{are-steps}

@@ -13,14 +13,17 @@ use Rattle.ad_link.specs.declared.refusal.LinkRefusal.{LinkRefusal}
 use Rattle.ad_link.specs.Plan.{Planned}
 use Rattle.ad_link.specs.Reason.{reason_of}
 use Rattle.ad_script.specs.declared.script.Load.{Load}
+use Rattle.ad_script.specs.declared.refusal.ScriptRefusal.{ScriptRefusal}
+use Rattle.ad_script.specs.declared.refusal.ScriptRefusal.TheVariants.{At, OutOfMemory}
 use Rattle.ad_script.specs.declared.script.Script.{Script}
+use Rattle.ad_script.specs.Script.{script_of}
 use Rattle.std.specs.Option.{option_map_or}
 use Rattle.ad_command.specs.declared.trouble.Trouble.{Trouble}
-use Rattle.ad_command.specs.declared.trouble.Trouble.TheVariants.{BadScript, Memory, Module, NoExport, Read, TooLarge, Usage}
-use Rattle.ad_command.specs.Chain.{Ask, Chain, Done, Judge, MayEnd, ModuleFile, Refuse, ScriptText, Serves, Verdict, ◌>>=◌, each_in_turn, given, judged}
+use Rattle.ad_command.specs.declared.trouble.Trouble.TheVariants.{Memory, Module, NoExport, Read, TooLarge, Usage}
+use Rattle.ad_command.specs.Chain.{Ask, Chain, Done, Judge, MayEnd, ModuleFile, Refuse, Serves, Verdict, ◌>>=◌, each_in_turn, given, judged}
 use Rattle.ad_command.specs.Command.{Job, Lines, Predicted, Shown, Work, command, job_in, job_of, shown_in, work_of}
-use Rattle.ad_command.specs.Loading.{file_of, fixed_behind, image_at, loaded_image, loaded_images, module_of, script_of}
-use Rattle.ad_command.specs.Trouble.{refused_module}
+use Rattle.ad_command.specs.Loading.{file_of, fixed_behind, image_at, loaded_image, loaded_images, module_of, script_in}
+use Rattle.ad_command.specs.Trouble.{refused_module, refused_script}
 use Rattle.ad_words.specs.Words.{Command, Predict, Seq, Show, command_of}
 
 -- a fault that doesn't tell of reading a file
@@ -48,8 +51,9 @@ frank-judged : {A E : Type 0} (last : Option (List ℕ)) (trouble : E → Troubl
 frank-judged {A} last trouble plain (Ok a) = tt
 frank-judged {A} last trouble plain (Err e) = plain-frank A last (trouble e) (plain e)
 
-bad-script : IsPlain BadScript
-bad-script = record { no_read = λ name e. cc; not_large = λ name e. cc }
+script-plain : (r : ScriptRefusal) → IsPlain (refused_script r)
+script-plain (At line cause) = record { no_read = λ name e. cc; not_large = λ name e. cc }
+script-plain OutOfMemory = record { no_read = λ name e. cc; not_large = λ name e. cc }
 
 no-export : (line : ℕ) → IsPlain (NoExport line)
 no-export line = record { no_read = λ name e. cc; not_large = λ name e. cc }
@@ -72,9 +76,9 @@ frank-file : (last : Option (List ℕ)) (name : List ℕ) → IsFrank last (file
 unfolding file_of
 frank-file last name = λ file. frank-if name file (nat_lt FILE_BYTES (length file))
 
-frank-script : (last : Option (List ℕ)) (name : List ℕ) → IsFrank last (script_of name)
-unfolding script_of
-frank-script last name = frank-behind last (file_of name) (λ text. Judge (ScriptText text) (judged (λ wrong. BadScript))) (frank-file last name) (λ at text v. frank-judged at (λ wrong. BadScript) (λ wrong. bad-script) v)
+frank-script : (last : Option (List ℕ)) (name : List ℕ) → IsFrank last (script_in name)
+unfolding script_in
+frank-script last name = frank-behind last (file_of name) (λ text. judged refused_script (script_of text)) (frank-file last name) (λ at text. frank-judged at refused_script script-plain (script_of text))
 
 frank-module : (last : Option (List ℕ)) (name : List ℕ) → IsFrank last (module_of name)
 unfolding module_of
@@ -105,7 +109,7 @@ frank-job script seed fuel last =
 
 frank-job-in : (name : List ℕ) (seed fuel : ℕ) (last : Option (List ℕ)) → IsFrank last (job_in name seed fuel)
 unfolding job_in
-frank-job-in name seed fuel last = frank-behind last (script_of name) (λ script. job_of module_of script seed fuel) (frank-script last name) (λ at script. frank-job script seed fuel at)
+frank-job-in name seed fuel last = frank-behind last (script_in name) (λ script. job_of module_of script seed fuel) (frank-script last name) (λ at script. frank-job script seed fuel at)
 
 frank-shown : (name : List ℕ) (last : Option (List ℕ)) → IsFrank last (shown_in name)
 unfolding shown_in

@@ -19,7 +19,8 @@ use Rattle.ad_script.specs.declared.script.Script.{Script}
 use Rattle.ad_script.specs.declared.script.Step.{Step}
 use Rattle.ad_script.specs.declared.script.Step.TheVariants.{Call, Move, Stack}
 use Rattle.ad_script.specs.declared.script.TheConstants.{SCRIPT_LINES}
-use Rattle.ad_script.specs.Script.{IsInRange, IsStepInRange, line_of}
+use Rattle.ad_script.specs.Range.{IsInRange, IsStepInRange}
+use Rattle.ad_script.specs.Script.{line_of}
 
 -- a place at which a test passes is within the list
 position-within : {A : Type 0} (p : A → Bool) (xs : List A) → IfSome (position p xs) (λ k. k < length xs)

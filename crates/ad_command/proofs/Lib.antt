@@ -7,4 +7,5 @@ pub mod FirstRefusal
 pub mod Frank
 pub mod Jobs
 pub mod Loads
+pub mod SomeAnswer
 pub mod Worked

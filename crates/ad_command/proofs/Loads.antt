@@ -28,13 +28,14 @@ use Rattle.ad_place.specs.Choice.{Drawn, next_place, with_next}
 use Rattle.ad_relate.specs.ClearHistory.{AreOffsets}
 use Rattle.ad_script.specs.declared.script.Load.{Load}
 use Rattle.ad_script.specs.declared.script.Script.{Script}
-use Rattle.ad_script.specs.Script.{IsScript}
+use Rattle.ad_script.specs.declared.refusal.ScriptRefusal.{ScriptRefusal}
+use Rattle.ad_script.specs.Script.{script_of}
 use Rattle.ad_command.specs.declared.trouble.Trouble.{Trouble}
-use Rattle.ad_command.specs.declared.trouble.Trouble.TheVariants.{BadScript, Memory, Read, TooLarge}
-use Rattle.ad_command.specs.Chain.{Chain, Done, Found, ImageAt, IsFound, IsWrong, Judge, MayEnd, ModuleFile, Question, Refuse, ScriptText, Serves, Wrong, each_in_turn, judged}
-use Rattle.ad_command.specs.Loading.{file_of, fixed_behind, image_at, loaded_image, loaded_images, module_of, script_of}
+use Rattle.ad_command.specs.declared.trouble.Trouble.TheVariants.{Memory, Read, TooLarge}
+use Rattle.ad_command.specs.Chain.{Chain, Done, Found, ImageAt, IsFound, IsWrong, Judge, MayEnd, ModuleFile, Question, Refuse, Serves, each_in_turn, judged}
+use Rattle.ad_command.specs.Loading.{file_of, fixed_behind, image_at, loaded_image, loaded_images, module_of, script_in}
 use Rattle.ad_command.specs.Command.{shown_at, shown_in}
-use Rattle.ad_command.specs.Trouble.{refused_module}
+use Rattle.ad_command.specs.Trouble.{refused_module, refused_script}
 use Rattle.ad_command.proofs.Chains.{memory, serves-behind, serves-done, serves-memory, serves-judge, serves-refuse, serves-refused}
 
 -- a file that may be so long and isn't too long, and one that is
@@ -93,18 +94,18 @@ chain-wanting old new c faults asked same = record {
 }
 
 -- what was found, and what is wrong
-found : (o : Outside) (q : Question) (trouble : Wrong q → Trouble) (v : Found q) → IsFound q v → Serves o o (Judge q (judged trouble)) (Ok v)
+found : (o : Outside) (q : Question) (trouble : LinkRefusal → Trouble) (v : Found q) → IsFound q v → Serves o o (Judge q (judged trouble)) (Ok v)
 found o q trouble v is = serves-judge o o q (judged trouble) (Ok v) (Ok v) is (serves-done o v)
 
-amiss : (o : Outside) (q : Question) (trouble : Wrong q → Trouble) (wrong : Wrong q) → IsWrong q wrong → Serves o o (Judge q (judged trouble)) (Err (trouble wrong))
+amiss : (o : Outside) (q : Question) (trouble : LinkRefusal → Trouble) (wrong : LinkRefusal) → IsWrong q wrong → Serves o o (Judge q (judged trouble)) (Err (trouble wrong))
 amiss o q trouble wrong is = serves-judge o o q (judged trouble) (Err wrong) (Err (trouble wrong)) is (serves-refuse o (trouble wrong))
 
 -- what is wrong with what was asked, told as a fault; or want of memory
-abbrev pub IsTold : (q : Question) → (Wrong q → Trouble) → Trouble → Type 0
-IsTold q trouble t = ((wrong : Wrong q) × IsWrong q wrong × (t ≡ trouble wrong)) ⊎ (t ≡ Memory)
+abbrev pub IsTold : Question → (LinkRefusal → Trouble) → Trouble → Type 0
+IsTold q trouble t = ((wrong : LinkRefusal) × IsWrong q wrong × (t ≡ trouble wrong)) ⊎ (t ≡ Memory)
 
 -- the verdict on what was asked
-pub judged-so : (o : Outside) (q : Question) (trouble : Wrong q → Trouble) (r : Result (Found q) Trouble)
+pub judged-so : (o : Outside) (q : Question) (trouble : LinkRefusal → Trouble) (r : Result (Found q) Trouble)
     → IfOk r (IsFound q) → IfErr r (IsTold q trouble) → Serves o o (Judge q (judged trouble)) r
 judged-so o q trouble (Ok v) ok err = found o q trouble v ok
 judged-so o q trouble (Err t) ok (inl bad) = rw (bad.2) (amiss o q trouble bad.0 bad.1)
@@ -112,23 +113,25 @@ judged-so o q trouble (Err t) ok (inr wanting) = rw wanting (serves-memory o (Ju
 
 module _ (old new : Outside) (name : List ℕ) where
   script-next : List ℕ → Chain Script
-  script-next text = Judge (ScriptText text) (judged (λ wrong. BadScript))
+  script-next text = judged refused_script (script_of text)
 
-  pub script-unread : (t : Trouble) → Serves old new (file_of name) (Err t) → Serves old new (script_of name) (Err t)
-  unfolding script_of script-next
+  pub script-unread : (t : Trouble) → Serves old new (file_of name) (Err t) → Serves old new (script_in name) (Err t)
+  unfolding script_in script-next
   script-unread t first = serves-refused old new (file_of name) script-next t first
 
-  -- a script has one thing that may be wrong
-  script-told : (text : List ℕ) (r : Result Script Trouble) → IfErr r (λ t. ((t ≡ BadScript) × ((s : Script) → IsScript text s → ⊥)) ⊎ (t ≡ Memory)) → IfErr r (IsTold (ScriptText text) (λ wrong. BadScript))
-  script-told text (Ok s) err = tt
-  script-told text (Err t) (inl bad) = inl (tt, bad.1, bad.0)
-  script-told text (Err t) (inr wanting) = inr wanting
+  -- the script of a text, or why it is refused
+  script-said : (text : List ℕ) (r : Result Script Trouble) → IfOk r (λ s. script_of text ≡ Ok s)
+      → IfErr r (λ t. ((w : ScriptRefusal) × (script_of text ≡ Err w) × (t ≡ refused_script w)) ⊎ (t ≡ Memory)) → Serves new new (script-next text) r
+  unfolding script-next
+  script-said text (Ok s) ok err = rw ok (serves-done new s)
+  script-said text (Err t) ok (inl bad) = rw (bad.1, bad.2) (serves-refuse new (refused_script bad.0))
+  script-said text (Err t) ok (inr wanting) = rw wanting (serves-memory new (script-next text))
 
   pub script-read : (text : List ℕ) (r : Result Script Trouble) → Serves old new (file_of name) (Ok text)
-      → IfOk r (IsScript text) → IfErr r (λ t. ((t ≡ BadScript) × ((s : Script) → IsScript text s → ⊥)) ⊎ (t ≡ Memory))
-      → Serves old new (script_of name) r
-  unfolding script_of script-next
-  script-read text r first ok err = serves-behind old new new (file_of name) script-next text r first (judged-so new (ScriptText text) (λ wrong. BadScript) r ok (script-told text r err))
+      → IfOk r (λ s. script_of text ≡ Ok s) → IfErr r (λ t. ((w : ScriptRefusal) × (script_of text ≡ Err w) × (t ≡ refused_script w)) ⊎ (t ≡ Memory))
+      → Serves old new (script_in name) r
+  unfolding script_in script-next
+  script-read text r first ok err = serves-behind old new new (file_of name) script-next text r first (script-said text r ok err)
 
   module-next : List ℕ → Chain Planned
   module-next file = Judge (ModuleFile file) (judged (refused_module name))

@@ -1,16 +1,15 @@
 -- Worked chains.
 use Rattle.std.proofs.Common.{◌≡◌, ℕ, List, [], ◌∷◌, Err, refl}
 use Rattle.std.specs.Prelude.{codes}
-use Rattle.ad_script.specs.declared.script.Script.{Script}
-use Rattle.ad_script.specs.Script.{IsScript}
-use Rattle.ad_command.specs.declared.trouble.Trouble.TheVariants.{BadScript, Usage}
+use Rattle.ad_script.specs.declared.refusal.Cause.TheVariants.{Word}
+use Rattle.ad_script.specs.declared.refusal.ScriptRefusal.TheVariants.{At}
+use Rattle.ad_script.specs.Forms.{form_of}
+use Rattle.ad_script.specs.Lines.{lines_of, without_return, words_of}
+use Rattle.ad_script.specs.Script.{after_line, after_lines, script_of, text_cause}
+use Rattle.ad_command.specs.declared.trouble.Trouble.TheVariants.{Script, Usage}
 use Rattle.ad_command.specs.Chain.{Gives}
 use Rattle.ad_command.specs.Command.{command, job_in}
-use Rattle.ad_command.specs.Loading.{file_of, script_of}
-
--- a script has a line that loads a module
-empty-is-no-script : (s : Script) → IsScript [] s → ⊥
-empty-is-no-script s h = let e = h.text.2 in absurd cc
+use Rattle.ad_command.specs.Loading.{file_of, script_in}
 
 pub no-task : (files : List ℕ → List ℕ) → Gives files (command (codes "none" ∷ codes "s" ∷ [])) [] (Err Usage)
 unfolding command
@@ -24,6 +23,11 @@ pub an-option : (files : List ℕ → List ℕ) → Gives files (command (codes 
 unfolding command
 an-option files = (refl, refl)
 
-pub an-empty-script : (files : List ℕ → List ℕ) → files (codes "s") ≡ [] → Gives files (command (codes "seq" ∷ codes "s" ∷ [])) (codes "s" ∷ []) (Err BadScript)
-unfolding command job_in script_of file_of
-an-empty-script files e = ([], refl, rw e (Err tt, empty-is-no-script, (refl, refl)))
+-- no line begins with the word `x`
+x-is-refused : script_of (codes "x\n") ≡ Err (At 1 Word)
+unfolding script_of after_lines after_line lines_of without_return words_of text_cause form_of
+x-is-refused = refl
+
+pub a-refused-line : (files : List ℕ → List ℕ) → files (codes "s") ≡ codes "x\n" → Gives files (command (codes "seq" ∷ codes "s" ∷ [])) (codes "s" ∷ []) (Err (Script 1 Word))
+unfolding command job_in script_in file_of
+a-refused-line files e = ([], refl, rw (e, x-is-refused) (refl, refl))

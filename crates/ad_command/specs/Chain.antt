@@ -7,50 +7,37 @@ use Rattle.ad_base.specs.declared.place.Place.{Place}
 use Rattle.ad_link.specs.declared.refusal.LinkRefusal.{LinkRefusal}
 use Rattle.ad_link.specs.Plan.{IsPlan, IsRefused, IsRefusedAt, Planned}
 use Rattle.ad_reloc.specs.Image.{IsImage}
-use Rattle.ad_script.specs.declared.script.Script.{Script}
-use Rattle.ad_script.specs.Script.{IsScript}
 use Rattle.ad_command.specs.declared.trouble.Trouble.{Trouble}
 use Rattle.ad_command.specs.declared.trouble.Trouble.TheVariants.{Read, Memory}
 
 -- What a chain has judged, where the answer is a relation and no function:
---     ScriptText bytes        which script bytes are the text of
 --     ModuleFile bytes        what the link of these bytes finds before the immovable part has a place
 --     ImageAt plan fixed      what image the plan of a link has with its immovable part at a place
 pub data Question : Type 0 where
-  ScriptText : List ℕ → Question
   ModuleFile : List ℕ → Question
   ImageAt : Planned → Place → Question
 
 -- what is found where nothing is wrong
 abbrev pub Found : Question → Type 0
-Found (ScriptText bytes) = Script
 Found (ModuleFile bytes) = Planned
 Found (ImageAt p fixed) = Image
 
--- what may be wrong: with a script one thing, that the bytes have another form; with a module what its link refuses
-abbrev pub Wrong : Question → Type 0
-Wrong (ScriptText bytes) = Unit {0}
-Wrong (ModuleFile bytes) = LinkRefusal
-Wrong (ImageAt p fixed) = LinkRefusal
-
--- what was found, or what is wrong
+-- what was found, or how the link refuses the module
 abbrev pub Verdict : Question → Type 0
-Verdict q = Result (Found q) (Wrong q)
+Verdict q = Result (Found q) LinkRefusal
 
 abbrev pub IsFound : (q : Question) → Found q → Type 0
-IsFound (ScriptText bytes) s = IsScript bytes s
 IsFound (ModuleFile bytes) p = IsPlan bytes p
 IsFound (ImageAt p fixed) i = IsImage p.object p.layout p.tables fixed i
 
-abbrev pub IsWrong : (q : Question) → Wrong q → Type 0
-IsWrong (ScriptText bytes) wrong = (s : Script) → IsScript bytes s → ⊥
+abbrev pub IsWrong : Question → LinkRefusal → Type 0
 IsWrong (ModuleFile bytes) r = IsRefused bytes r
 IsWrong (ImageAt p fixed) r = IsRefusedAt fixed p r
 
 -- the verdict is right
 abbrev pub IsVerdict : (q : Question) → Verdict q → Type 0
 IsVerdict q (Ok found) = IsFound q found
-IsVerdict q (Err wrong) = IsWrong q wrong
+IsVerdict q (Err refusal) = IsWrong q refusal
 
 -- A chain of steps: it is done, or refuses, or asks for the file of a name and goes on with its bytes, or has a question
 -- judged and goes on with the verdict.

@@ -9,7 +9,7 @@ use Rattle.ad_lines.specs.Ready.{ready_steps}
 use Rattle.ad_script.specs.declared.script.Script.{Script}
 use Rattle.ad_command.specs.declared.trouble.Trouble.TheVariants.{NoExport, Usage}
 use Rattle.ad_command.specs.Chain.{Chain, Done, ◌>>=◌, given, judged}
-use Rattle.ad_command.specs.Loading.{image_at, loaded_images, module_of, script_of}
+use Rattle.ad_command.specs.Loading.{image_at, loaded_images, module_of, script_in}
 use Rattle.ad_words.specs.Words.{Command, Predict, Seq, Show, command_of}
 
 -- a run that may begin: the seed of its places, the steps that a call may make, the script, the images of its modules,
@@ -41,7 +41,7 @@ job_of module_of script seed fuel = do
 -- the job of the script in a file, whose modules are in files
 unfoldable pub job_in : List ℕ → ℕ → ℕ → Chain Job
 job_in name seed fuel = do
-  script ← script_of name
+  script ← script_in name
   job_of module_of script seed fuel
 
 -- where an immovable part of so many pages lies while its module is shown: at the start of the first region for modules

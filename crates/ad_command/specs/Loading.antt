@@ -11,19 +11,20 @@ use Rattle.ad_place.specs.Choice.{next_place}
 use Rattle.ad_reloc.specs.Image.{IsImage}
 use Rattle.ad_script.specs.declared.script.Load.{Load}
 use Rattle.ad_script.specs.declared.script.Script.{Script}
-use Rattle.ad_command.specs.declared.trouble.Trouble.TheVariants.{BadScript, TooLarge}
-use Rattle.ad_command.specs.Chain.{Ask, Chain, Done, ImageAt, Judge, ModuleFile, Refuse, ScriptText, ◌>>=◌, each_in_turn, judged}
-use Rattle.ad_command.specs.Trouble.{refused_module}
+use Rattle.ad_script.specs.Script.{script_of}
+use Rattle.ad_command.specs.declared.trouble.Trouble.TheVariants.{TooLarge}
+use Rattle.ad_command.specs.Chain.{Ask, Chain, Done, ImageAt, Judge, ModuleFile, Refuse, ◌>>=◌, each_in_turn, judged}
+use Rattle.ad_command.specs.Trouble.{refused_module, refused_script}
 
 -- the file of a name, which isn't too long
 unfoldable pub file_of : List ℕ → Chain (List ℕ)
 file_of name = Ask name (λ file. if nat_lt FILE_BYTES (length file) then Refuse (TooLarge name) else Done file)
 
 -- the script in a file
-unfoldable pub script_of : List ℕ → Chain Script
-script_of name = do
+unfoldable pub script_in : List ℕ → Chain Script
+script_in name = do
   text ← file_of name
-  Judge (ScriptText text) (judged (λ wrong. BadScript))
+  judged refused_script (script_of text)
 
 -- what the link of the module in a file finds before the immovable part has a place
 unfoldable pub module_of : List ℕ → Chain Planned

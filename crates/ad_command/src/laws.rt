@@ -9,7 +9,8 @@ ghost use Rattle.ad_lines.specs.declared.ready.ReadyStep.{ReadyStep};
 ghost use Rattle.ad_lines.specs.Ready.{ready_steps};
 ghost use Rattle.ad_script.specs.declared.script.Load.{Load};
 ghost use Rattle.ad_script.specs.declared.script.Script.{Script};
-ghost use Rattle.ad_script.specs.Script.{IsScript};
+ghost use Rattle.ad_script.specs.declared.refusal.Cause.TheVariants.{Word};
+ghost use Rattle.ad_script.specs.Script.{script_of};
 ghost use Rattle.ad_command.specs.Chain.{Gives};
 ghost use Rattle.ad_command.specs.Command.{Lines, Predicted, Shown, Work, command, shown_at};
 ghost use Rattle.ad_command.specs.Loading.{AreLinked, IsRefusedLoad, loaded_images, module_of};
@@ -28,13 +29,13 @@ pub fn law_first_refusal()
         → Gives files (loaded_images module_of seed s) (map (λ x. x.file) linked ++ l.file ∷ []) (Err (refused_module l.file r)) }
 {}
 
-/// Worked chains: words of no command, a command without an operand, an option, and a script's file without a byte.
+/// Worked chains: words of no command, a command without an operand, an option, and a script of the line `x`.
 pub fn law_worked_chains()
     ensures task { (files : List ℕ → List ℕ) → Gives files (command (codes "none" ∷ codes "s" ∷ [])) [] (Err Trouble.Usage) }
     ensures operand { (files : List ℕ → List ℕ) → Gives files (command (codes "predict" ∷ [])) [] (Err Trouble.Usage) }
     ensures option { (files : List ℕ → List ℕ) → Gives files (command (codes "seq" ∷ codes "-s" ∷ [])) [] (Err Trouble.Usage) }
-    ensures script { (files : List ℕ → List ℕ) → files (codes "s") ≡ []
-        → Gives files (command (codes "seq" ∷ codes "s" ∷ [])) (codes "s" ∷ []) (Err Trouble.BadScript) }
+    ensures script { (files : List ℕ → List ℕ) → files (codes "s") ≡ codes "x\n"
+        → Gives files (command (codes "seq" ∷ codes "s" ∷ [])) (codes "s" ∷ []) (Err (Trouble.Script 1 Word)) }
 {}
 
 /// Over files of the same bytes the chain of a command has one answer, and asks for the same names.
@@ -44,18 +45,24 @@ pub fn law_one_answer()
         → (names ≡ more) × (due ≡ other) }
 {}
 
+/// Over all files the chain of a command has an answer, whatever its words.
+pub fn law_some_answer()
+    ensures { (files : List ℕ → List ℕ) (words : List (List ℕ))
+        → (names : List (List ℕ)) × (end : Result Work Trouble) × Gives files (command words) names end }
+{}
+
 /// The chain of right words is done, where the script's file and the files of the modules that it loads aren't too long,
-/// the script has its form, the modules are linked, and each call finds its export. It asks for these files, in order, and
+/// no line of the script is refused, the modules are linked, and each call finds its export. It asks for these files, in order, and
 /// its work is to run the script's lines on those modules, with their parts at the places that the seed draws, or to predict
 /// its calls; or to list the one module that is shown.
 pub fn law_right_commands_are_done()
     ensures seq { (files : List ℕ → List ℕ) (words : List (List ℕ)) (operand : List ℕ) (seed fuel : ℕ) (s : Script) (images : List Image) (steps : List ReadyStep)
-        → command_of words ≡ Some (Seq operand seed fuel) → length (files operand) ≤ FILE_BYTES → IsScript (files operand) s
+        → command_of words ≡ Some (Seq operand seed fuel) → length (files operand) ≤ FILE_BYTES → script_of (files operand) ≡ Ok s
         → AreLinked files seed s.workers [] s.loads images → ready_steps images s.steps ≡ Ok steps
         → Gives files (command words) (operand ∷ map (λ l. l.file) s.loads)
         (Ok (Lines (record { seed = seed; fuel = fuel; script = s; images = images; steps = steps }))) }
     ensures predict { (files : List ℕ → List ℕ) (words : List (List ℕ)) (operand : List ℕ) (seed fuel : ℕ) (s : Script) (images : List Image) (steps : List ReadyStep)
-        → command_of words ≡ Some (Predict operand seed fuel) → length (files operand) ≤ FILE_BYTES → IsScript (files operand) s
+        → command_of words ≡ Some (Predict operand seed fuel) → length (files operand) ≤ FILE_BYTES → script_of (files operand) ≡ Ok s
         → AreLinked files seed s.workers [] s.loads images → ready_steps images s.steps ≡ Ok steps
         → Gives files (command words) (operand ∷ map (λ l. l.file) s.loads)
         (Ok (Predicted (record { seed = seed; fuel = fuel; script = s; images = images; steps = steps }))) }

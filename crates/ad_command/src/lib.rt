@@ -18,7 +18,10 @@ mod top;
 mod trouble;
 
 use ad_base::{DiskFiles, OutSink};
-pub use laws::{law_first_refusal, law_one_answer, law_right_commands_are_done, law_worked_chains};
+pub use laws::{
+    law_first_refusal, law_one_answer, law_right_commands_are_done, law_some_answer,
+    law_worked_chains,
+};
 use std::process::ExitCode;
 use std::rt::Env;
 use std::{env, io};

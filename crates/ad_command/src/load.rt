@@ -1,6 +1,6 @@
 //! The files of a script, and the modules that it loads.
 
-ghost use Rattle.std.specs.Prelude.{◌≡◌, ◌⊎◌, ◌+◌, ◌++◌, ◌<◌, ◌≤◌, List, ℕ, [], ◌∷◌, length, IfOk, IfErr, Ok, Err};
+ghost use Rattle.std.specs.Prelude.{◌≡◌, ◌⊎◌, ◌+◌, ◌++◌, ◌<◌, ◌≤◌, List, ℕ, [], ◌∷◌, length, true, IfOk, IfErr, Ok, Err};
 ghost use Rattle.ad_base.specs.declared.image.Image.{Image};
 ghost use Rattle.ad_base.specs.Image.{IsWhole, movable_pages};
 ghost use Rattle.ad_base.specs.Place.{IsModulePlace};
@@ -10,13 +10,16 @@ ghost use Rattle.ad_link.specs.Plan as planned;
 ghost use Rattle.ad_relate.specs.ClearHistory.{AreOffsets};
 ghost use Rattle.ad_reloc.specs.Image.{IsImage};
 ghost use Rattle.ad_lines.specs.Opening.{opening_drawn, AreLoaded};
+ghost use Rattle.ad_script.specs.declared.refusal.ScriptRefusal.{ScriptRefusal};
 ghost use Rattle.ad_script.specs.declared.script.Script.{Script};
-ghost use Rattle.ad_script.specs.Script.{IsFileName, IsInRange, IsScript};
+ghost use Rattle.ad_script.specs.Forms.{is_file_name};
+ghost use Rattle.ad_script.specs.Range.{IsInRange};
+ghost use Rattle.ad_script.specs.Script.{script_of};
 ghost use Rattle.ad_command.specs.Chain.{Serves};
 ghost use Rattle.ad_command.specs.Private.Seen.{seen};
 ghost use Rattle.ad_command.specs.Command.{shown_at, shown_in};
-ghost use Rattle.ad_command.specs.Loading.{file_of, image_at, loaded_image, loaded_images, module_of, script_of};
-ghost use Rattle.ad_command.specs.Trouble.{refused_module};
+ghost use Rattle.ad_command.specs.Loading.{file_of, image_at, loaded_image, loaded_images, module_of, script_in};
+ghost use Rattle.ad_command.specs.Trouble.{refused_module, refused_script};
 
 use crate::trouble::{Trouble, refused_module};
 use ad_base::{
@@ -29,8 +32,8 @@ use ad_script::{Load, Script, file_text, law_in_range, read_script};
 use std::alloc::Global;
 
 /// The script in the file of this name.
-pub fn script_of<F: Files>(alloc: Global, files: &mut F, name: &str) -> Result<Script, Trouble>
-    ensures serves { Serves (F.outside files.old) (F.outside files.new) (script_of name.now) result }
+pub fn script_in<F: Files>(alloc: Global, files: &mut F, name: &str) -> Result<Script, Trouble>
+    ensures serves { Serves (F.outside files.old) (F.outside files.new) (script_in name.now) result }
     ensures range { IfOk result IsInRange }
 {
     let text = file_of(alloc, files, name)?;
@@ -84,12 +87,13 @@ fn file_of<F: Files>(alloc: Global, files: &mut F, name: &str) -> Result<Vec<u8>
 
 /// What the text of a script says.
 fn parse_script(alloc: Global, text: &[u8]) -> Result<Script, Trouble>
-    ensures script { IfOk result (IsScript text.now) }
+    ensures script { IfOk result (λ s. script_of text.now ≡ Ok s) }
     ensures range { IfOk result IsInRange }
-    ensures fault { IfErr result (λ t. ((t ≡ Trouble.BadScript) × ((s : Script) → IsScript text.now s → ⊥)) ⊎ (t ≡ Trouble.Memory)) }
+    ensures fault { IfErr result (λ t. ((r : ScriptRefusal) × (script_of text.now ≡ Err r) × (t ≡ refused_script r)) ⊎ (t ≡ Trouble.Memory)) }
 {
     law_in_range();
-    read_script(alloc, text)?.ok_or(Trouble::BadScript)
+    let script = read_script(alloc, text)?;
+    Ok(script)
 }
 
 /// Draws the places of so many workers' stacks.
@@ -112,7 +116,7 @@ fn load_image<F: Files>(
     placer: &mut Placer,
     load: &Load,
 ) -> Result<Image, Trouble>
-    requires name { IsFileName load.now.file }
+    requires name { is_file_name load.now.file ≡ true }
     requires room { length placer.old.places + 2 ≤ MAPPINGS }
     ensures serves { (workers : ℕ) (before : List Image) → placer.old ≡ opening_drawn placer.old.seed workers before
         → Serves (F.outside files.old) (F.outside files.new) (loaded_image module_of placer.old.seed workers before load.now) result }

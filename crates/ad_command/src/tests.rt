@@ -1,7 +1,8 @@
-//! The command over files and a sink in memory: worked examples of a run, and each refusal.
+//! The command over files and a sink in memory: worked examples of runs, and each refusal.
 
 mod linked;
 mod objects;
+mod scripts;
 
 use crate::top::{Ended, top_still};
 use ad_base::{MemFile, MemFiles, MemSink, Name, Sequence};
@@ -65,6 +66,8 @@ struct Given<'a> {
     script: &'a [u8],
     /// The bytes of the file `f`.
     module: &'a [u8],
+    /// The bytes of the file `g`.
+    other: &'a [u8],
     /// The fetches that fail.
     fetches: &'a [u64],
     /// Bytes that a write takes at most.
@@ -79,6 +82,7 @@ fn seq<'a>(script: &'a [u8], module: &'a [u8]) -> Given<'a> {
         words: &["seq", "s"],
         script,
         module,
+        other: b"",
         fetches: &[],
         most: ROOM,
         writes: &[],
@@ -128,6 +132,7 @@ fn files(alloc: Global, given: &Given) -> Result<MemFiles, Fail> {
     let mut list = Vec::new(alloc);
     list.push(file(alloc, b"s", given.script)?)?;
     list.push(file(alloc, b"f", given.module)?)?;
+    list.push(file(alloc, b"g", given.other)?)?;
     Ok(MemFiles::new(list, Vec::from_slice(alloc, given.fetches)?))
 }
 
@@ -302,7 +307,7 @@ fn predictions_that_are_refused(rt: HostRuntime) -> Result<(), Fail> {
     let call: &[u8] = b"load m f\ncall 0 m.sum 2 3\n";
     let none: &[u8] = b"load m f\ncall 0 m.sum\ncall 0 m.none\n";
     let cases: [(&[u8], &[u8], u8, &str, usize); 3] = [
-        (b"", sum, 2, "adelie: script", 1),
+        (b"call", sum, 2, "adelie: script line 1: word", 1),
         (call, b"", 3, "adelie: module f: object 1", 2),
         (none, sum, 3, "adelie: line 3: no export", 2),
     ];
@@ -533,7 +538,7 @@ fn options(rt: HostRuntime) -> Result<(), Fail> {
 }
 
 #[test]
-fn scripts_and_modules_that_are_refused(rt: HostRuntime) -> Result<(), Fail> {
+fn modules_that_are_refused(rt: HostRuntime) -> Result<(), Fail> {
     let adder = function(rt.alloc(), &SUM, b"sum")?;
     let sum = adder.as_slice();
     let other = function(rt.alloc(), &SUM, b"sun")?;
@@ -541,26 +546,23 @@ fn scripts_and_modules_that_are_refused(rt: HostRuntime) -> Result<(), Fail> {
     let mut cut = adder.clone()?;
     cut.truncate(479);
     let short = cut.as_slice();
-    // As many bytes as a file may have.
-    let spaces = vec![in rt.alloc(); b' '; 1_048_576]?;
     let call: &[u8] = b"load m f\ncall 0 m.sum 2 3\n";
     let none: &[u8] = b"load m f\ncall 0 m.none\n";
     let later: &[u8] = b"load m f\ncall 0 m.sum\nmove m\ncall 0 m.none\ncall 0 m.one\n";
-    let loads: &[u8] = b"load m f\nload n f\n";
-    let cases: [(&[u8], &[u8], u8, &str, usize); 9] = [
-        (b"", sum, 2, "adelie: script", 1),
-        (loads, sum, 2, "adelie: script", 1),
-        (spaces.as_slice(), sum, 2, "adelie: script", 1),
-        (call, short, 3, "adelie: module f: object 7", 2),
-        (call, b"", 3, "adelie: module f: object 1", 2),
-        (none, short, 3, "adelie: module f: object 7", 2),
-        (none, sum, 3, "adelie: line 2: no export", 2),
-        (later, sum, 3, "adelie: line 4: no export", 2),
-        (call, other.as_slice(), 3, "adelie: line 2: no export", 2),
+    // The second module isn't one, and is linked before any export is looked for.
+    let second: &[u8] = b"load m f\nload n g\nload k f\ncall 0 m.none\n";
+    let cases: [(&[u8], &[u8], &str, usize); 7] = [
+        (call, short, "adelie: module f: object 7", 2),
+        (call, b"", "adelie: module f: object 1", 2),
+        (none, short, "adelie: module f: object 7", 2),
+        (none, sum, "adelie: line 2: no export", 2),
+        (later, sum, "adelie: line 4: no export", 2),
+        (call, other.as_slice(), "adelie: line 2: no export", 2),
+        (second, sum, "adelie: module g: object 1", 3),
     ];
-    for (script, module, status, fault, asked) in cases {
+    for (script, module, fault, asked) in cases {
         let served = serve(&rt, &seq(script, module))?;
-        expect_refused(&rt, &served, status, fault, asked);
+        expect_refused(&rt, &served, 3, fault, asked);
     }
     Ok(())
 }
@@ -570,7 +572,7 @@ fn files_that_are_not_read(rt: HostRuntime) -> Result<(), Fail> {
     let adder = function(rt.alloc(), &SUM, b"sum")?;
     let sum = adder.as_slice();
     let call: &[u8] = b"load m f\ncall 0 m.sum 2 3\n";
-    let absent: &[u8] = b"load m g\ncall 0 m.sum 2 3\n";
+    let absent: &[u8] = b"load m h\ncall 0 m.sum 2 3\n";
     let spaces = vec![in rt.alloc(); b' '; 1_048_577]?;
     let long = spaces.as_slice();
     let cases: [(&str, &[u8], &[u8], &[u64], &str, usize); 7] = [
@@ -578,7 +580,7 @@ fn files_that_are_not_read(rt: HostRuntime) -> Result<(), Fail> {
         ("s", call, sum, &[1], "adelie: read s", 1),
         ("s", call, sum, &[2], "adelie: read f", 2),
         ("t", call, sum, &[], "adelie: read t", 1),
-        ("s", absent, sum, &[], "adelie: read g", 2),
+        ("s", absent, sum, &[], "adelie: read h", 2),
         ("s", long, sum, &[], "adelie: read s: too large", 1),
         ("s", call, long, &[], "adelie: read f: too large", 2),
     ];

@@ -10,11 +10,11 @@ ghost use Rattle.ad_lines.specs.declared.ready.ReadyStep.{ReadyStep};
 ghost use Rattle.ad_lines.specs.LineLaws.{run_of_seed};
 ghost use Rattle.ad_lines.specs.Opening.{opening_drawn, AreLoaded};
 ghost use Rattle.ad_lines.specs.Ready.{ready_steps};
-ghost use Rattle.ad_script.specs.Script.{IsInRange};
+ghost use Rattle.ad_script.specs.Range.{IsInRange};
 ghost use Rattle.ad_command.specs.Trouble.{status_of};
 ghost use Rattle.ad_words.specs.Words.{Show};
 
-use crate::load::{Loaded, load_images, script_of, shown_image};
+use crate::load::{Loaded, load_images, script_in, shown_image};
 use crate::trouble::{Trouble, exit_status};
 use ad_base::{Book, Failed, Files, Image, Moved, OutOfMemory, Row, Sink, write_all};
 use ad_lines::{Finished, LineRun, Missing, ReadyStep, ready_steps};
@@ -42,7 +42,7 @@ pub struct Ended {
 /// Serves the command words. It always returns, and waits for nobody but the files that it reads and the sink that it
 /// writes to. The allocator is that of `rt`.
 ///
-/// The statuses are those of the faults: 1 where the words aren't of the grammar, 2 where the script has another form,
+/// The statuses are those of the faults: 1 where the words aren't of the grammar, 2 where a line of the script is refused,
 /// 3 where a module isn't linked, or where a line calls an export that its module hasn't, 4 where a file couldn't be read or has
 /// more than 1,048,576 bytes, 5 where the report couldn't be written, 6 where memory was wanting.
 pub fn top_still<R: AllocGlobal, F: Files, K: Sink>(
@@ -163,7 +163,7 @@ fn seq<F: Files>(
     ensures { (end : Result Job Trouble) × Serves (F.outside files.old) (F.outside files.new) (job_in script.now seed fuel) end
         × MatchResult result (λ p. (job : Job) × (end ≡ Ok job) × IsDone (Lines job) (record { books = map contents_of p.books.items; moves = p.moves.items; rows = p.ledger.items; text = p.text.items })) (λ t. end ≡ Err t) }
 {
-    let script = script_of(alloc, files, script)?;
+    let script = script_in(alloc, files, script)?;
     let loaded = load_images(alloc, files, &script, seed)?;
     run_job(alloc, &script, loaded, fuel)
 }
@@ -179,7 +179,7 @@ fn predicted<F: Files>(
     ensures { (end : Result Job Trouble) × Serves (F.outside files.old) (F.outside files.new) (job_in script.now seed fuel) end
         × MatchResult result (λ p. (job : Job) × (end ≡ Ok job) × IsDone (Predicted job) (record { books = map contents_of p.books.items; moves = p.moves.items; rows = p.ledger.items; text = p.text.items })) (λ t. end ≡ Err t) }
 {
-    let script = script_of(alloc, files, script)?;
+    let script = script_in(alloc, files, script)?;
     let loaded = load_images(alloc, files, &script, seed)?;
     predict_job(alloc, &script, &loaded, fuel)
 }

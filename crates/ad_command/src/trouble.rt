@@ -8,6 +8,7 @@ ghost use Rattle.ad_command.specs.Trouble.{fault_text, refused_module, status_of
 
 use ad_base::{Name, OutOfMemory};
 use ad_link::{LinkRefusal, Stage};
+use ad_script::{Cause, ScriptRefusal};
 use std::alloc::{AllocFailed, Global};
 use std::error::Error;
 use std::fmt;
@@ -18,8 +19,11 @@ use std::io::ErrorKind;
 pub enum Trouble {
     /// The command words aren't of the grammar.
     Usage,
-    /// The script has another form.
-    BadScript,
+    /// This line of the script, counted from 1, is the first that is refused, and this is the first cause.
+    Script {
+        line: u64,
+        cause: Cause,
+    },
     /// The link refuses this file: at this stage, for the reason of this number in the stage's list, counted from 1.
     Module {
         file: Name,
@@ -51,7 +55,7 @@ impl Trouble {
     {
         match self {
             Trouble::Usage => 1,
-            Trouble::BadScript => 2,
+            Trouble::Script { .. } => 2,
             Trouble::Module { .. } | Trouble::NoExport { .. } => 3,
             Trouble::Read { .. } | Trouble::TooLarge { .. } => 4,
             Trouble::Write => 5,
@@ -99,6 +103,20 @@ pub fn unread_words(kind: ErrorKind) -> Trouble
     }
 }
 
+impl From<ScriptRefusal> for Trouble {
+    ghost use Rattle.std.specs.Prelude.{◌≡◌};
+    ghost use Rattle.ad_command.specs.Trouble.{refused_script};
+
+    ghost from_gives = { λ r t. t ≡ refused_script r };
+
+    fn from(refusal: ScriptRefusal) -> Trouble {
+        match refusal {
+            ScriptRefusal::At { line, cause } => Trouble::Script { line, cause },
+            ScriptRefusal::OutOfMemory => Trouble::Memory,
+        }
+    }
+}
+
 impl From<OutOfMemory> for Trouble {
     ghost use Rattle.std.specs.Prelude.{◌≡◌};
     ghost use Rattle.ad_command.specs.declared.trouble.Trouble.TheVariants.{Memory};
@@ -130,7 +148,7 @@ impl fmt::Display for Trouble {
     fn fmt<W: fmt::Write>(&self, f: &mut fmt::Formatter<W>) -> fmt::Result {
         match self {
             Trouble::Usage => write!(f, "adelie: usage"),
-            Trouble::BadScript => write!(f, "adelie: script"),
+            Trouble::Script { line, cause } => write!(f, "adelie: script line {line}: {cause}"),
             Trouble::Module {
                 file,
                 stage,

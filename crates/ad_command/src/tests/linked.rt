@@ -50,7 +50,7 @@ const NAMES: [Named<'static>; 5] = [
 
 /// A function that adds its argument to a word, and returns the sum: `auipc t0, 0; addi t0, t0, 0; ld t1, 0(t0);
 /// add a0, a0, t1; sd a0, 0(t0)`.
-const COUNTER: [u32; 6] = [
+pub const COUNTER: [u32; 6] = [
     0x0000_0297,
     0x0002_8293,
     0x0002_b303,
@@ -61,7 +61,7 @@ const COUNTER: [u32; 6] = [
 
 /// A function that keeps its own address in a word, and returns 0: `auipc t0, 0; addi t0, t0, 0; auipc a0, 0;
 /// sd a0, 0(t0); addi a0, x0, 0`.
-const KEEPER: [u32; 6] = [
+pub const KEEPER: [u32; 6] = [
     0x0000_0297,
     0x0002_8293,
     0x0000_0517,
@@ -71,7 +71,7 @@ const KEEPER: [u32; 6] = [
 ];
 
 /// Where both have the address of the word.
-const OF_WORD: [Entry; 2] = [(0, WORD, HIGH), (4, HERE, LOW)];
+pub const OF_WORD: [Entry; 2] = [(0, WORD, HIGH), (4, HERE, LOW)];
 
 /// A function that jumps to a service by its word in the table: `auipc t0, 0; ld t0, 0(t0); jalr x0, 0(t0)`.
 const BY_TABLE: [u32; 3] = [0x0000_0297, 0x0002_b283, 0x0002_8067];
@@ -97,12 +97,12 @@ const OF_STUB: [Entry; 1] = [(0, K_IN, CALL_PLT)];
 
 /// A module of a text and a word of data.
 #[derive(Clone, Copy)]
-struct Source<'a> {
-    words: &'a [u32],
-    entries: &'a [Entry],
+pub struct Source<'a> {
+    pub words: &'a [u32],
+    pub entries: &'a [Entry],
 }
 
-fn made(rt: &impl AllocGlobal, source: Source) -> Result<Vec<u8>, Fail> {
+pub fn made(rt: &impl AllocGlobal, source: Source) -> Result<Vec<u8>, Fail> {
     let alloc = rt.alloc();
     let bytes = word_bytes(alloc, source.words)?;
     object(

@@ -1,4 +1,4 @@
-use Rattle.ad_command.proofs.Worked.{an-empty-script, an-option, no-operand, no-task}
+use Rattle.ad_command.proofs.Worked.{a-refused-line, an-option, no-operand, no-task}
 use Rattle.ad_command.proofs.laws.law_worked_chains.Goals as goal
 
 pub returns-clause-task : goal.returns-clause-task
@@ -11,4 +11,4 @@ pub returns-clause-option : goal.returns-clause-option
 returns-clause-option c = an-option
 
 pub returns-clause-script : goal.returns-clause-script
-returns-clause-script c = an-empty-script
+returns-clause-script c = a-refused-line

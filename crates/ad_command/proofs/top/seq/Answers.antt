@@ -11,16 +11,16 @@ pub returns-in_err-script : goal.returns-in_err-script
 returns-in_err-script g c =
     let t = c.in_err-script.field-0.0 in
     let p = err_from_is_err_and c.from_residual.result c.from_residual.ensures.1 in
-    rw (p.1, p.2) (Err t, job-unread c.args.script.now c.args.seed c.args.fuel (g.F.Files.outside c.args.files.now) (g.F.Files.outside c.script_of.new.files) t c.in_err-script.ensures.serves, refl)
+    rw (p.1, p.2) (Err t, job-unread c.args.script.now c.args.seed c.args.fuel (g.F.Files.outside c.args.files.now) (g.F.Files.outside c.script_in.new.files) t c.in_err-script.ensures.serves, refl)
 
 pub returns-in_err-loaded : goal.returns-in_err-loaded
 returns-in_err-loaded g c =
     let t = c.in_err-loaded.field-0.0 in
     let p = err_from_is_err_and c.from_residual-in_err-loaded.result c.from_residual-in_err-loaded.ensures.1 in
-    rw (p.1, p.2) (Err t, job-unloaded c.args.script.now c.args.seed c.args.fuel (g.F.Files.outside c.args.files.now) (g.F.Files.outside c.script_of.new.files) c.in_ok-script.script c.in_ok-script.ensures.serves (g.F.Files.outside c.load_images.new.files) t c.in_err-loaded.ensures.serves, refl)
+    rw (p.1, p.2) (Err t, job-unloaded c.args.script.now c.args.seed c.args.fuel (g.F.Files.outside c.args.files.now) (g.F.Files.outside c.script_in.new.files) c.in_ok-script.script c.in_ok-script.ensures.serves (g.F.Files.outside c.load_images.new.files) t c.in_err-loaded.ensures.serves, refl)
 
 pub returns : goal.returns
 returns g c =
     let loaded = c.in_ok-loaded.loaded in
-    job-ran c.args.script.now c.args.seed c.args.fuel (g.F.Files.outside c.args.files.now) (g.F.Files.outside c.script_of.new.files) c.in_ok-script.script c.in_ok-script.ensures.serves (g.F.Files.outside c.load_images.new.files) loaded.images.items c.in_ok-loaded.ensures.serves
+    job-ran c.args.script.now c.args.seed c.args.fuel (g.F.Files.outside c.args.files.now) (g.F.Files.outside c.script_in.new.files) c.in_ok-script.script c.in_ok-script.ensures.serves (g.F.Files.outside c.load_images.new.files) loaded.images.items c.in_ok-loaded.ensures.serves
     (λ j. IsDone (Lines j)) (λ (p : Prepared). record { books = map contents_of p.books.items; moves = p.moves.items; rows = p.ledger.items; text = p.text.items }) c.run_job.result loaded.placer.seed c.in_ok-loaded.ensures.seed c.run_job.ensures.done c.run_job.ensures.fault

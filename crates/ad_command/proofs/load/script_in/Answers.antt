@@ -1,6 +1,6 @@
 use Rattle.std.proofs.Common.{sym}
 use Rattle.ad_command.proofs.Loads.{handed_on, script-read, script-unread}
-use Rattle.ad_command.proofs.load.script_of.Goals as goal
+use Rattle.ad_command.proofs.load.script_in.Goals as goal
 
 pub returns-in_err-text-clause-serves : goal.returns-in_err-text-clause-serves
 returns-in_err-text-clause-serves g c =
