@@ -1,0 +1,4 @@
+pub mod Instructions
+pub mod Modules
+pub mod Script
+pub mod Private
