@@ -148,6 +148,20 @@ addresses-readable relas = record {
   relocated = λ kept e. absurd (omega arith);
 }
 
+-- The symbols that are defined lie in their sections.
+abbrev ArePlaced : Module → Type 0
+ArePlaced m = All (IsPlaced m.sections m.symbols) m.symbols
+
+each_placed : All ArePlaced modules
+unfolding find_place header_of headers_behind headers_of names_of next padded rela_header relas_bytes sections_bytes strings symbols_bytes symbols_header used
+each_placed =
+    each_module ArePlaced
+      (All-from_recursion (IsPlaced sum.sections sum.symbols) sum.symbols (inr (inr (lit< tt, lit≤ tt)), tt))
+      (All-from_recursion (IsPlaced cnt.sections cnt.symbols) cnt.symbols (inr (inr (lit< tt, lit≤ tt)), (inr (inr (lit< tt, lit≤ tt)), (inr (inr (lit< tt, lit≤ tt)), tt))))
+      (All-from_recursion (IsPlaced dev.sections dev.symbols) dev.symbols (inr (inr (lit< tt, lit≤ tt)), (inl refl, (inl refl, tt))))
+      (All-from_recursion (IsPlaced tab.sections tab.symbols) tab.symbols
+        (inr (inr (lit< tt, lit≤ tt)), (inr (inr (lit< tt, lit≤ tt)), (inr (inr (lit< tt, lit≤ tt)), (inr (inr (lit< tt, lit≤ tt)), (inr (inr (lit< tt, lit≤ tt)), tt))))))
+
 abbrev HasShortName : KitSymbol → Type 0
 HasShortName y = length y.name ≤ NAME_BYTES
 
@@ -158,21 +172,20 @@ abbrev IsModuleReadable : Module → Type 0
 IsModuleReadable m = IsReadable m.sections m.symbols
 
 readable-sum : IsModuleReadable sum
-unfolding find_place header_of headers_behind headers_of names_of next padded rela_header relas_bytes sections_bytes strings symbols_bytes symbols_header used width
+unfolding width
 readable-sum = record {
   sections = All-from_recursion IsSectionReadable sum.sections (text-readable sum_words [], tt);
   names = All-from_recursion HasShortName sum.symbols (lit≤ tt, tt);
-  places = All-from_recursion (IsPlaced sum.sections sum.symbols) sum.symbols (inr (inr (lit< tt, lit≤ tt)), tt);
+  places = each_placed 0 sum (lit< tt);
   relas = All-from_recursion (AreRelasReadable sum.symbols) sum.sections ((λ kept. All-nil (IsRelaReadable sum.symbols (text sum_words []))), tt);
 }
 
 readable-cnt : IsModuleReadable cnt
-unfolding find_place header_of headers_behind headers_of names_of next padded rela_header relas_bytes sections_bytes strings symbols_bytes symbols_header used width
+unfolding width
 readable-cnt = record {
   sections = All-from_recursion IsSectionReadable cnt.sections (text-readable cnt_words cnt_text.relas, (zeros-readable 8 (lit≤ tt), tt));
   names = All-from_recursion HasShortName cnt.symbols (lit≤ tt, (lit≤ tt, (lit≤ tt, tt)));
-  places = All-from_recursion (IsPlaced cnt.sections cnt.symbols) cnt.symbols
-      (inr (inr (lit< tt, lit≤ tt)), (inr (inr (lit< tt, lit≤ tt)), (inr (inr (lit< tt, lit≤ tt)), tt)));
+  places = each_placed 1 sum (lit< tt);
   relas = All-from_recursion (AreRelasReadable cnt.symbols) cnt.sections (
     (λ kept. All-from_recursion (IsRelaReadable cnt.symbols cnt_text) cnt_text.relas (record { symbol = lit≤ tt; field = lit≤ tt }, (record { symbol = lit≤ tt; field = lit≤ tt }, tt))),
     ((λ kept. All-nil (IsRelaReadable cnt.symbols (zeros 8))), tt),
@@ -180,11 +193,11 @@ readable-cnt = record {
 }
 
 readable-dev : IsModuleReadable dev
-unfolding find_place header_of headers_behind headers_of names_of next padded rela_header relas_bytes sections_bytes strings symbols_bytes symbols_header used width
+unfolding width
 readable-dev = record {
   sections = All-from_recursion IsSectionReadable dev.sections (text-readable dev_words dev_text.relas, tt);
   names = All-from_recursion HasShortName dev.symbols (lit≤ tt, (lit≤ tt, (lit≤ tt, tt)));
-  places = All-from_recursion (IsPlaced dev.sections dev.symbols) dev.symbols (inr (inr (lit< tt, lit≤ tt)), (inl refl, (inl refl, tt)));
+  places = each_placed 2 sum (lit< tt);
   relas = All-from_recursion (AreRelasReadable dev.symbols) dev.sections (
     (λ kept. All-from_recursion (IsRelaReadable dev.symbols dev_text) dev_text.relas (record { symbol = lit≤ tt; field = lit≤ tt }, (record { symbol = lit≤ tt; field = lit≤ tt }, tt))),
     tt,
@@ -192,12 +205,11 @@ readable-dev = record {
 }
 
 readable-tab : IsModuleReadable tab
-unfolding find_place header_of headers_behind headers_of names_of next padded rela_header relas_bytes sections_bytes strings symbols_bytes symbols_header used width
+unfolding width
 readable-tab = record {
   sections = All-from_recursion IsSectionReadable tab.sections (text-readable tab_words tab_text.relas, (addresses-readable tab_addresses.relas, tt));
   names = All-from_recursion HasShortName tab.symbols (lit≤ tt, (lit≤ tt, (lit≤ tt, (lit≤ tt, (lit≤ tt, tt)))));
-  places = All-from_recursion (IsPlaced tab.sections tab.symbols) tab.symbols
-      (inr (inr (lit< tt, lit≤ tt)), (inr (inr (lit< tt, lit≤ tt)), (inr (inr (lit< tt, lit≤ tt)), (inr (inr (lit< tt, lit≤ tt)), (inr (inr (lit< tt, lit≤ tt)), tt)))));
+  places = each_placed 3 sum (lit< tt);
   relas = All-from_recursion (AreRelasReadable tab.symbols) tab.sections (
     (λ kept. All-from_recursion (IsRelaReadable tab.symbols tab_text) tab_text.relas (record { symbol = lit≤ tt; field = lit≤ tt }, (record { symbol = lit≤ tt; field = lit≤ tt }, tt))),
     ((λ kept. All-from_recursion (IsRelaReadable tab.symbols tab_addresses) tab_addresses.relas (record { symbol = lit≤ tt; field = lit≤ tt }, (record { symbol = lit≤ tt; field = lit≤ tt }, tt))), tt),
@@ -233,37 +245,41 @@ label-fit name = record { info = lit< tt; shndx = lit< tt; value = lit< tt; size
 service-fit : (name : List ℕ) → IsSymbolFit (service name)
 service-fit name = record { info = lit< tt; shndx = lit< tt; value = lit< tt; size = lit< tt }
 
-fit-sum : IsModuleFit sum
+-- The files are short.
+abbrev IsSmall : Module → Type 0
+IsSmall m = length (file m) < 2 ^ 64
+
+each_small : All IsSmall modules
 unfolding find_place header_of headers_behind headers_of names_of next object_file padded rela_header relas_bytes sections_bytes strings symbols_bytes symbols_header used
+each_small = each_module IsSmall (lit< tt) (lit< tt) (lit< tt) (lit< tt)
+
+fit-sum : IsModuleFit sum
 fit-sum = record {
   sections = All-from_recursion IsSectionFit sum.sections (record { typ = lit< tt; flags = lit< tt; size = lit< tt }, tt);
   relas = All-from_recursion AreRelasFit sum.sections (All-nil IsRelaFit, tt);
   symbols = All-from_recursion IsSymbolFit sum.symbols (exported-fit _ _ (lit< tt), tt);
-  file = lit< tt;
+  file = each_small 0 sum (lit< tt);
 }
 
 fit-cnt : IsModuleFit cnt
-unfolding find_place header_of headers_behind headers_of names_of next object_file padded rela_header relas_bytes sections_bytes strings symbols_bytes symbols_header used
 fit-cnt = record {
   sections = All-from_recursion IsSectionFit cnt.sections (record { typ = lit< tt; flags = lit< tt; size = lit< tt }, (record { typ = lit< tt; flags = lit< tt; size = lit< tt }, tt));
   relas = All-from_recursion AreRelasFit cnt.sections
       (All-from_recursion IsRelaFit cnt_text.relas (rela-fit _ (lit< tt) (lit< tt) refl, (rela-fit _ (lit< tt) (lit< tt) refl, tt)), (All-nil IsRelaFit, tt));
   symbols = All-from_recursion IsSymbolFit cnt.symbols (object-fit _ _ (lit< tt), (label-fit _, (exported-fit _ _ (lit< tt), tt)));
-  file = lit< tt;
+  file = each_small 1 sum (lit< tt);
 }
 
 fit-dev : IsModuleFit dev
-unfolding find_place header_of headers_behind headers_of names_of next object_file padded rela_header relas_bytes sections_bytes strings symbols_bytes symbols_header used
 fit-dev = record {
   sections = All-from_recursion IsSectionFit dev.sections (record { typ = lit< tt; flags = lit< tt; size = lit< tt }, tt);
   relas = All-from_recursion AreRelasFit dev.sections
       (All-from_recursion IsRelaFit dev_text.relas (rela-fit _ (lit< tt) (lit< tt) refl, (rela-fit _ (lit< tt) (lit< tt) refl, tt)), tt);
   symbols = All-from_recursion IsSymbolFit dev.symbols (exported-fit _ _ (lit< tt), (service-fit _, (service-fit _, tt)));
-  file = lit< tt;
+  file = each_small 2 sum (lit< tt);
 }
 
 fit-tab : IsModuleFit tab
-unfolding find_place header_of headers_behind headers_of names_of next object_file padded rela_header relas_bytes sections_bytes strings symbols_bytes symbols_header used
 fit-tab = record {
   sections = All-from_recursion IsSectionFit tab.sections (record { typ = lit< tt; flags = lit< tt; size = lit< tt }, (record { typ = lit< tt; flags = lit< tt; size = lit< tt }, tt));
   relas = All-from_recursion AreRelasFit tab.sections (
@@ -271,27 +287,17 @@ fit-tab = record {
     (All-from_recursion IsRelaFit tab_addresses.relas (rela-fit _ (lit< tt) (lit< tt) refl, (rela-fit _ (lit< tt) (lit< tt) refl, tt)), tt),
   );
   symbols = All-from_recursion IsSymbolFit tab.symbols (object-fit _ _ (lit< tt), (label-fit _, (function-fit _ _ _ (lit< tt) (lit< tt), (function-fit _ _ _ (lit< tt) (lit< tt), (exported-fit _ _ (lit< tt), tt)))));
-  file = lit< tt;
+  file = each_small 3 sum (lit< tt);
 }
 
 -- So the file of each module is that of its object.
 abbrev pub HasObject : Module → Type 0
 HasObject m = IsObject (file m) (object m)
 
-has_object : (m : Module) → IsModuleWritable m → IsModuleFit m → IsModuleReadable m → HasObject m
-has_object m can fits read = IsObject-written m.sections m.symbols can fits read
-
-pub object-sum : HasObject sum
-object-sum = has_object sum writable-sum fit-sum readable-sum
-
-pub object-cnt : HasObject cnt
-object-cnt = has_object cnt writable-cnt fit-cnt readable-cnt
-
-pub object-dev : HasObject dev
-object-dev = has_object dev writable-dev fit-dev readable-dev
-
-pub object-tab : HasObject tab
-object-tab = has_object tab writable-tab fit-tab readable-tab
+each_fit : All IsModuleFit modules
+each_fit = each_module IsModuleFit fit-sum fit-cnt fit-dev fit-tab
 
 pub each_object : All HasObject modules
-each_object = each_module HasObject object-sum object-cnt object-dev object-tab
+each_object k d below =
+    let m = slice_index_or modules k d in
+    IsObject-written m.sections m.symbols (each_writable k d below) (each_fit k d below) (each_readable k d below)

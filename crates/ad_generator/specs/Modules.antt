@@ -13,8 +13,8 @@ use Rattle.ad_kit.specs.declared.object.KitSection.{KitSection}
 use Rattle.ad_kit.specs.declared.object.KitSymbol.{KitSymbol}
 use Rattle.ad_generator.specs.declared.symbols.TheConstants.{DATA, STB_LOCAL, STT_OBJECT, TEXT}
 
--- A module: its name in a script, the name of the one function that it exports, a second argument of the function if it takes
--- one, and the sections and symbols of its object file.
+-- A module: its name in a script, the name of the one function that it exports, the second argument that a script gives the
+-- function, if it takes one, and the sections and symbols of its object file.
 pub record Module : Type 0 where
   pub name : List ℕ
   pub export : List ℕ

@@ -6,6 +6,7 @@ ghost use Rattle.ad_elf.specs.Worked.{sum_file};
 ghost use Rattle.ad_kit.specs.ReadBack.{IsReadable};
 ghost use Rattle.ad_kit.specs.Writable.{IsWritable};
 ghost use Rattle.ad_generator.specs.Instructions.{AreWordsOf, cnt_instructions, dev_instructions, sum_instructions, tab_instructions};
+ghost use Rattle.ad_generator.specs.Linked.{HasImages, IsPlanned};
 ghost use Rattle.ad_generator.specs.Modules.{Module, built_file, cnt_words, dev_words, file, modules, object, sum_words, tab_words};
 ghost use Rattle.ad_generator.specs.Script.{script_text, worked_script};
 
@@ -28,4 +29,15 @@ pub fn law_files()
     ensures writable { All (λ (m : Module). IsWritable m.sections m.symbols) modules }
     ensures readable { All (λ (m : Module). IsReadable m.sections m.symbols) modules }
     ensures object { All (λ (m : Module). IsObject (file m) (object m)) modules }
+{}
+
+/// The file of each module has a plan and isn't refused, and the function of the module is the one export, at the start of
+/// the movable part.
+pub fn law_plans()
+    ensures { All IsPlanned modules }
+{}
+
+/// With the immovable part at any place, the plan of each module's file has an image and isn't refused.
+pub fn law_images()
+    ensures { All HasImages modules }
 {}

@@ -11,6 +11,6 @@ mod symbols;
 mod tests;
 
 pub use files::built;
-pub use laws::{law_files, law_instructions, law_worked_modules};
+pub use laws::{law_files, law_images, law_instructions, law_plans, law_worked_modules};
 pub use names::BUILT_MODULES;
 pub use script::{SCRIPT_LINES, built_script};
