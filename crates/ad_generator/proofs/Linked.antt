@@ -1,5 +1,5 @@
 -- The plan of each module, and its images.
-use Rattle.std.proofs.Common.{◌≡◌, ◌⊎◌, inl, inr, List, [], ◌∷◌, None, Some, refl, subst, sym, ap, ◌∙◌}
+use Rattle.std.proofs.Common.{◌≡◌, inl, inr, [], ◌∷◌, None, Some, refl, subst, sym, ap, ◌∙◌}
 use Rattle.std.specs.List.{All, slice_index_or}
 use Rattle.ad_base.specs.declared.image.Image.{Image}
 use Rattle.ad_base.specs.declared.place.Place.{Place}
@@ -7,7 +7,7 @@ use Rattle.ad_elf.specs.Below.{first, joined}
 use Rattle.ad_elf.specs.Relocation.{width}
 use Rattle.ad_kit.specs.ObjectFile.{names_of}
 use Rattle.ad_kit.specs.ReadBack.{is_kept, object_of, rela_of, relas_said, section_of, sections_said, symbol_of}
-use Rattle.ad_link.specs.Plan.{IsPlan, IsRefused, IsRefusedAt, Planned}
+use Rattle.ad_link.specs.Plan.{IsPlan, IsRefusedAt, Planned}
 use Rattle.ad_link.specs.declared.refusal.LinkRefusal.{LinkRefusal}
 use Rattle.ad_link.specs.declared.refusal.LinkRefusal.TheVariants as refusal
 use Rattle.ad_link.proofs.OneAnswer.{not_both, one_plan}
@@ -57,7 +57,7 @@ each_fine : All HasNoRow modules
 unfolding area_of end_of export first has_name home is_aligned is_fixed_name is_kept joined names_of need need_of next object_of pages_of rela_of relas_said section_of sections_said service_of spot_at spots_behind symbol_of symbol_resolved unresolved_row uses_symbol width without_repeats
 each_fine =
     each_module HasNoRow (record { laid = refl; listed = refl; exported = refl }) (record { laid = refl; listed = refl; exported = refl })
-      (record { laid = refl; listed = refl; exported = refl }) (record { laid = refl; listed = refl; exported = refl })
+    (record { laid = refl; listed = refl; exported = refl }) (record { laid = refl; listed = refl; exported = refl })
 
 -- So there is a plan, and only this one.
 is_plan : (m : Module) → HasObject m → HasNoRow m → IsPlan (file m) (planned m)
@@ -106,8 +106,8 @@ has_images : (m : Module) → HasObject m → HasNoRow m → IsAppliedAnywhere m
 has_images m has fine applied =
     let plan = is_plan m has fine in
     let none : (p : Planned) (fixed : Place) → IsPlan (file m) p → reloc.first_row p.object p.layout p.tables fixed ≡ None =
-        λ p fixed is.
-        subst (λ (q : Planned). reloc.first_row q.object q.layout q.tables fixed ≡ None) (sym (one_plan (file m) p (planned m) is plan)) (applied fixed)
+    λ p fixed is.
+    subst (λ (q : Planned). reloc.first_row q.object q.layout q.tables fixed ≡ None) (sym (one_plan (file m) p (planned m) is plan)) (applied fixed)
     in
     record {
       some = λ p fixed is. image_at p fixed (none p fixed is);

@@ -1,12 +1,13 @@
 -- The files of the modules can be written and are read.
-use Rattle.std.proofs.Common.{◌≡◌, ℕ, ◌^◌, ◌<◌, ◌≤◌, ◌==◌, false, true, inl, inr, List, [], ◌∷◌, length, refl, arith, rules, lit<, lit≤}
-use Rattle.std.specs.Prelude.{◌&&◌, ◌||◌, Bool, not, pos}
+use Rattle.std.proofs.Common.{◌≡◌, ℕ, ◌^◌, ◌<◌, ◌≤◌, ◌==◌, false, true, inl, inr, List, [], ◌∷◌, length, length-append, refl, arith, rules, lit<, lit≤}
+use Rattle.std.specs.Prelude.{◌&&◌, ◌+◌, ◌||◌, Bool, codes, not, pos}
 use Rattle.std.specs.List.{All, AllPairs, list_all, list_any, slice_index_or}
 use Rattle.std.proofs.lemmas.List.Elements.{All-from_recursion, All-nil}
 use Rattle.std.proofs.lemmas.Bool.{and_parts}
 use Rattle.std.proofs.lemmas.List.Kept.{AllPairs-cons}
 use Rattle.std.proofs.lemmas.List.Sums.{AllPass-from_list_all}
-use Rattle.ad_elf.specs.declared.elf.TheConstants.{NAME_BYTES, ZERO_BYTES}
+use Rattle.ad_elf.specs.declared.elf.TheConstants.{NAME_BYTES, SHF_COMPRESSED, SHF_TLS, SHT_PROGBITS, ZERO_BYTES}
+use Rattle.ad_elf.specs.File.{has_flag}
 use Rattle.ad_elf.specs.Refusals.{IsObject}
 use Rattle.ad_elf.specs.Relocation.{width}
 use Rattle.ad_kit.specs.ObjectFile.{find_place, header_of, headers_behind, headers_of, is_local, names_of, object_file, padded, rela_header, relas_bytes, sections_bytes, strings, symbols_bytes, symbols_header, used}
@@ -111,18 +112,24 @@ writable-tab = record {
 pub each_writable : All IsModuleWritable modules
 each_writable = each_module IsModuleWritable writable-sum writable-cnt writable-dev writable-tab
 
--- The sections of each kind are read.
-text-readable : (words : List ℕ) (relas : List KitRela) → IsSectionReadable (text words relas)
-text-readable words relas = record {
+-- The sections of each kind are read: one of the program with a short name, and one of few zeros.
+program-readable : (s : KitSection) → s.typ ≡ SHT_PROGBITS → has_flag s.flags SHF_TLS ≡ false → has_flag s.flags SHF_COMPRESSED ≡ false → length s.name + 5 ≤ NAME_BYTES → IsSectionReadable s
+program-readable s program shared plain short = record {
   no_symbols = λ e. omega arith;
   no_relas = λ e. omega arith;
   no_rels = λ e. omega arith;
-  loaded = λ e. record { typ = inl refl; shared = refl; plain = refl };
+  loaded = λ e. record { typ = inl program; shared = shared; plain = plain };
   zeros = λ e. omega arith;
-  name = lit≤ tt;
-  rela_name = λ e. lit≤ tt;
+  name = omega arith;
+  rela_name = λ e. omega (arith, length-append (codes ".rela") s.name);
   relocated = λ kept e. absurd (omega arith);
 }
+
+text-readable : (words : List ℕ) (relas : List KitRela) → IsSectionReadable (text words relas)
+text-readable words relas = program-readable (text words relas) refl refl refl (lit≤ tt)
+
+addresses-readable : (relas : List KitRela) → IsSectionReadable (addresses relas)
+addresses-readable relas = program-readable (addresses relas) refl refl refl (lit≤ tt)
 
 zeros-readable : (size : ℕ) → size ≤ ZERO_BYTES → IsSectionReadable (zeros size)
 zeros-readable size few = record {
@@ -136,18 +143,6 @@ zeros-readable size few = record {
   relocated = λ kept e. refl;
 }
 
-addresses-readable : (relas : List KitRela) → IsSectionReadable (addresses relas)
-addresses-readable relas = record {
-  no_symbols = λ e. omega arith;
-  no_relas = λ e. omega arith;
-  no_rels = λ e. omega arith;
-  loaded = λ e. record { typ = inl refl; shared = refl; plain = refl };
-  zeros = λ e. omega arith;
-  name = lit≤ tt;
-  rela_name = λ e. lit≤ tt;
-  relocated = λ kept e. absurd (omega arith);
-}
-
 -- The symbols that are defined lie in their sections.
 abbrev ArePlaced : Module → Type 0
 ArePlaced m = All (IsPlaced m.sections m.symbols) m.symbols
@@ -156,11 +151,11 @@ each_placed : All ArePlaced modules
 unfolding find_place header_of headers_behind headers_of names_of next padded rela_header relas_bytes sections_bytes strings symbols_bytes symbols_header used
 each_placed =
     each_module ArePlaced
-      (All-from_recursion (IsPlaced sum.sections sum.symbols) sum.symbols (inr (inr (lit< tt, lit≤ tt)), tt))
-      (All-from_recursion (IsPlaced cnt.sections cnt.symbols) cnt.symbols (inr (inr (lit< tt, lit≤ tt)), (inr (inr (lit< tt, lit≤ tt)), (inr (inr (lit< tt, lit≤ tt)), tt))))
-      (All-from_recursion (IsPlaced dev.sections dev.symbols) dev.symbols (inr (inr (lit< tt, lit≤ tt)), (inl refl, (inl refl, tt))))
-      (All-from_recursion (IsPlaced tab.sections tab.symbols) tab.symbols
-        (inr (inr (lit< tt, lit≤ tt)), (inr (inr (lit< tt, lit≤ tt)), (inr (inr (lit< tt, lit≤ tt)), (inr (inr (lit< tt, lit≤ tt)), (inr (inr (lit< tt, lit≤ tt)), tt))))))
+    (All-from_recursion (IsPlaced sum.sections sum.symbols) sum.symbols (inr (inr (lit< tt, lit≤ tt)), tt))
+    (All-from_recursion (IsPlaced cnt.sections cnt.symbols) cnt.symbols (inr (inr (lit< tt, lit≤ tt)), (inr (inr (lit< tt, lit≤ tt)), (inr (inr (lit< tt, lit≤ tt)), tt))))
+    (All-from_recursion (IsPlaced dev.sections dev.symbols) dev.symbols (inr (inr (lit< tt, lit≤ tt)), (inl refl, (inl refl, tt))))
+    (All-from_recursion (IsPlaced tab.sections tab.symbols) tab.symbols
+    (inr (inr (lit< tt, lit≤ tt)), (inr (inr (lit< tt, lit≤ tt)), (inr (inr (lit< tt, lit≤ tt)), (inr (inr (lit< tt, lit≤ tt)), (inr (inr (lit< tt, lit≤ tt)), tt))))))
 
 abbrev HasShortName : KitSymbol → Type 0
 HasShortName y = length y.name ≤ NAME_BYTES
