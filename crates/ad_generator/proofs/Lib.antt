@@ -1,0 +1,4 @@
+pub mod Lines
+pub mod Linked
+pub mod Readable
+pub mod Worked

@@ -1,0 +1,5 @@
+pub mod Instructions
+pub mod Linked
+pub mod Modules
+pub mod Script
+pub mod Private

@@ -1,0 +1,27 @@
+//! The object files of the modules that are built.
+
+ghost use Rattle.std.specs.Prelude.{◌≡◌, ◌<◌, IfOk};
+ghost use Rattle.ad_generator.specs.Modules.{built_file};
+
+use crate::names::{BUILT_MODULES, BuiltModule};
+use ad_base::OutOfMemory;
+use ad_kit::write_object;
+use std::alloc::Global;
+
+/// The object file of a module, by its number: 0 `sum`, whose function adds two arguments; 1 `cnt`, which counts in a word of
+/// data; 2 `dev`, which writes to the queue of its device and reads from there; 3 `tab`, which jumps by a table of addresses.
+/// The one error is want of memory.
+///
+/// The files are laid out as a compiler does. Instructions are in `.text`, which is aligned to 4 bytes, the word of
+/// `cnt` in `.bss` and the table of `tab` in `.data.rel.ro`, both aligned to 8 and written to. Local symbols come first: the
+/// object of data, the label of the `auipc` that a low half refers to, and local functions. Then come the function that is
+/// exported and the services. Symbols of functions and of data have their size in bytes; addends are 0.
+pub fn built(alloc: Global, number: u64) -> Result<Vec<u8>, OutOfMemory>
+    requires { number < BUILT_MODULES }
+    ensures { IfOk result (λ file. file.items ≡ built_file number) }
+{
+    let module = BuiltModule::of(number);
+    let sections = module.sections(alloc)?;
+    let symbols = module.symbols(alloc)?;
+    write_object(alloc, sections.as_slice(), symbols.as_slice())
+}

@@ -1,0 +1,136 @@
+//! Tests of the files and of the script, against what is known of them.
+
+use crate::{BUILT_MODULES, built, built_script};
+use std::test::Fail;
+
+/// The file of `sum`: the header of the file; the text, the symbols and the names; the section table.
+const SUM_FILE: [&str; 15] = [
+    "7f454c460201010000000000000000000100f300010000000000000000000000",
+    "0000000000000000a00000000000000000000000400000000000400005000400",
+    "3305b50067800000000000000000000000000000000000000000000000000000",
+    "0100000012000100000000000000000008000000000000000073756d00002e74",
+    "657874002e73796d746162002e737472746162002e7368737472746162000000",
+    "0000000000000000000000000000000000000000000000000000000000000000",
+    "0000000000000000000000000000000000000000000000000000000000000000",
+    "0100000001000000060000000000000000000000000000004000000000000000",
+    "0800000000000000000000000000000004000000000000000000000000000000",
+    "0700000002000000000000000000000000000000000000004800000000000000",
+    "3000000000000000030000000100000008000000000000001800000000000000",
+    "0f00000003000000000000000000000000000000000000007800000000000000",
+    "0500000000000000000000000000000001000000000000000000000000000000",
+    "1700000003000000000000000000000000000000000000007d00000000000000",
+    "2100000000000000000000000000000001000000000000000000000000000000",
+];
+
+/// Where the text begins in each file, in bytes.
+const TEXT_FROM: usize = 64;
+
+/// The words of the text of the other modules.
+const TEXTS: [(u64, &[u32]); 3] = [
+    (
+        1,
+        &[
+            0x0000_0297,
+            0x0002_8293,
+            0x0002_b303,
+            0x0065_0533,
+            0x00a2_b023,
+            0x0000_8067,
+        ],
+    ),
+    (
+        2,
+        &[
+            0x0000_8393,
+            0x0000_0097,
+            0x0000_80e7,
+            0x0000_0097,
+            0x0000_80e7,
+            0x0003_8067,
+        ],
+    ),
+    (
+        3,
+        &[
+            0x0000_0297,
+            0x0002_8293,
+            0x0015_7513,
+            0x0035_1513,
+            0x00a2_82b3,
+            0x0002_b283,
+            0x0002_8067,
+            0x00a0_0513,
+            0x0000_8067,
+            0x0140_0513,
+            0x0000_8067,
+        ],
+    ),
+];
+
+/// The script of eight lines behind the loads.
+const SCRIPT: &str = "workers 4\n\
+    load sum sum.o\n\
+    load cnt cnt.o\n\
+    load dev dev.o\n\
+    load tab tab.o\n\
+    call 0 sum.sum 0 1\n\
+    call 1 sum.sum 1 1\n\
+    call 2 cnt.add 2\n\
+    call 3 cnt.add 3\n\
+    call 0 dev.echo 4\n\
+    call 1 dev.echo 5\n\
+    call 2 tab.pick 6\n\
+    move sum\n";
+
+/// The bytes as hexadecimal digits.
+fn hex(rt: &impl AllocGlobal, bytes: &[u8]) -> Result<String, Fail> {
+    let mut text = String::new(rt.alloc());
+    for byte in bytes {
+        write!(text, "{byte:02x}")?;
+    }
+    Ok(text)
+}
+
+/// The file of the module of a number.
+fn file(rt: &impl AllocGlobal, number: u64) -> Result<Vec<u8>, Fail> {
+    if number >= BUILT_MODULES {
+        return Err("a module has the number".into());
+    }
+    Ok(built(rt.alloc(), number)?)
+}
+
+#[test]
+fn the_file_of_sum(rt: HostRuntime) -> Result<(), Fail> {
+    let mut expected = String::new(rt.alloc());
+    for line in SUM_FILE {
+        expected.push_str(line)?;
+    }
+    let file = file(&rt, 0)?;
+    assert_eq!(rt; file.len(), 480);
+    assert_eq!(rt; hex(&rt, file.as_slice())?.as_str(), expected.as_str());
+    Ok(())
+}
+
+#[test]
+fn the_words_of_the_other_texts(rt: HostRuntime) -> Result<(), Fail> {
+    for (number, words) in TEXTS {
+        let file = file(&rt, number)?;
+        let mut expected = Vec::new(rt.alloc());
+        for word in words {
+            expected.extend_from_slice(&word.to_le_bytes())?;
+        }
+        let text = file
+            .as_slice()
+            .get(TEXT_FROM..)
+            .ok_or("bytes behind the header")?;
+        assert!(rt; text.starts_with(expected.as_slice()), "{number}");
+    }
+    Ok(())
+}
+
+#[test]
+fn the_script_of_eight_lines(rt: HostRuntime) -> Result<(), Fail> {
+    let text = built_script(rt.alloc(), 8)?;
+    assert_eq!(rt; std::str::from_utf8(text.as_slice())?, SCRIPT);
+    Ok(())
+}
