@@ -82,7 +82,7 @@ module _ (images : List Image) where
       export-runnable workers line worker n args i (export_number i export) r at below (position-within (λ (x : Export). bytes_eq x.name export) i.exports) e
 
   runnable : (workers loads : ℕ) (s : Step) (r : ReadyStep) → loads ≤ length images → IsStepInRange workers loads s → ready_step images s ≡ Some r → IsRunnable images workers r
-  runnable workers loads (Call line worker n export args) r enough range e = call-runnable workers line worker n export args (slice_get images n) r refl range.0 e
+  runnable workers loads (Call line worker n export args) r enough range e = call-runnable workers line worker n export args (slice_get images n) r refl range.caller e
   runnable workers loads (Move line modules) r enough range e =
       let same : ready.Move line modules ≡ r = cc in
       let all : All (λ m. m < length images) modules = All-weaker (λ m. m < loads) (λ m. m < length images) (λ m h. omega arith) modules range.loaded in
@@ -115,7 +115,7 @@ are-steps images s rs range enough e =
       from_one = λ k d within.
           let step = there s.steps k (omega (arith, within, long)) in
           let at = line-at rs s.steps k d step.0 same within in
-          omega (arith, at, (range.lines_to k step.0 (omega (arith, within, long))).0);
+          omega (arith, at, (range.step_lines k step.0 (omega (arith, within, long))).0);
       rising = λ i j d low within.
           let step = there s.steps j (omega (arith, within, long)) in
           let first = line-at rs s.steps i d step.0 same (omega (arith, low, within)) in
@@ -135,8 +135,8 @@ few-by : (n : ℕ) (s : Script) → IsInRange s → length s.steps ≡ n → n �
 few-by zero s range long = omega arith
 few-by (suc n) s range long =
     let step = there s.steps n (omega (arith, long)) in
-    let low = at-least s.steps step.0 range.steps_rise range.lines_to n (omega (arith, long)) in
-    omega (arith, low, (range.lines_to n step.0 (omega (arith, long))).1)
+    let low = at-least s.steps step.0 range.steps_rise range.step_lines n (omega (arith, long)) in
+    omega (arith, low, (range.step_lines n step.0 (omega (arith, long))).1)
 
 -- there are no more steps than lines
 pub few-steps : (images : List Image) (s : Script) (rs : List ReadyStep) → IsInRange s → ready_steps images s.steps ≡ Ok rs → length rs ≤ SCRIPT_LINES

@@ -1,11 +1,11 @@
 -- The numbers that lines say are in range.
-use Rattle.std.proofs.Common.{◌≡◌, ◌≢◌, ℕ, ◌+◌, ◌<◌, ◌≤◌, ◌==◌, ◌&&◌, ◌||◌, Bool, true, false, not, nat_le, nat_lt, List, [], ◌∷◌, ◌++◌, length, map, position, get_or, bytes_eq, Option, None, Some, IfSome, unwrap_or, Result, Ok, Err, refl, sym, ap, subst, ◌∙◌, arith, tests, lit≤, lit<}
+use Rattle.std.proofs.Common.{◌≡◌, ◌≢◌, ℕ, ◌+◌, ◌<◌, ◌≤◌, ◌&&◌, ◌||◌, Bool, true, false, not, List, [], ◌∷◌, ◌++◌, length, map, position, get_or, bytes_eq, Option, None, Some, IfSome, unwrap_or, refl, sym, ap, ◌∙◌, arith, tests, lit≤, lit<}
 use Rattle.std.specs.List.{All, AllPairs, list_all, list_any, position_or_len}
-use Rattle.std.specs.Option.{is_none, is_some}
-use Rattle.std.proofs.lemmas.Bool.{leb-true, ltb-false, true≢false}
+use Rattle.std.specs.Option.{is_some}
+use Rattle.std.proofs.lemmas.Bool.{true≢false}
 use Rattle.std.proofs.lemmas.List.Sums.{fails_before_first}
-use Rattle.std.proofs.lemmas.List.{length_push, nil_from_length}
-use Rattle.std.proofs.lemmas.List.Elements.{All-nil, All-cons, All-push, All-weaker}
+use Rattle.std.proofs.lemmas.List.{length_push}
+use Rattle.std.proofs.lemmas.List.Elements.{All-nil, All-cons, All-push}
 use Rattle.std.proofs.lemmas.List.Kept.{AllPairs-cons}
 use Rattle.std.proofs.lemmas.List.Quantifiers.{all_pairs_push, position-Some}
 use Rattle.std.proofs.lemmas.Slice.Eq.{bytes_eq-Decides}
@@ -14,11 +14,10 @@ use Rattle.ad_script.specs.declared.refusal.Cause.{Cause}
 use Rattle.ad_script.specs.declared.refusal.Cause.TheVariants.{Word}
 use Rattle.ad_script.specs.declared.script.Load.{Load}
 use Rattle.ad_script.specs.declared.script.Step.{Step}
-use Rattle.ad_script.specs.declared.script.Step.TheVariants.{Call, Move, Stack}
 use Rattle.ad_script.specs.declared.script.TheConstants.{SCRIPT_LINES}
-use Rattle.ad_script.specs.Forms.{Blank, Calls, Form, Loads, Moves, Stacks, Workers, export_part, form_of, is_file_name, is_module_name, module_part, number_of}
-use Rattle.ad_script.specs.Range.{IsMoveInRange, IsStepInRange}
-use Rattle.ad_script.specs.Script.{Said, first_cause, form_cause, form_sentences, nothing_said, with_step, has_bad_name, has_bad_number, has_bad_target, has_repeats, has_too_many, is_bad_count, is_late, is_loaded, is_past_last_load, lacks_module, lacks_worker, line_of, module_number, number_of_module, number_or_0, repeats, with_form, workers_of}
+use Rattle.ad_script.specs.Forms.{Form, is_file_name, is_module_name}
+use Rattle.ad_script.specs.Range.{IsStepInRange}
+use Rattle.ad_script.specs.Script.{Said, first_cause, form_cause, form_sentences, nothing_said, with_step, has_bad_name, has_bad_number, has_bad_target, has_repeats, has_too_many, is_late, is_loaded, is_past_last_load, lacks_module, lacks_worker, line_of, module_number, number_of_module, repeats, workers_of}
 
 -- no sentence holds where there is no cause
 pub none_hold : (rows : List (Bool × Cause)) → first_cause rows ≡ None → All (λ (row : Bool × Cause). row.0 ≡ false) rows
@@ -33,6 +32,7 @@ pub record IsPassed (said : Said) (form : Form) : Type 0 where
   pub early : is_late said form ≡ false
   pub numbered : has_bad_number form ≡ false
   pub worker : lacks_worker said form ≡ false
+  pub target : has_bad_target form ≡ false
   pub loaded : lacks_module said form ≡ false
   pub new : repeats said form ≡ false
   pub room : is_past_last_load said form ≡ false
@@ -48,6 +48,7 @@ is_passed said form e =
       early = none 2 d (lit< tt);
       numbered = none 3 d (lit< tt);
       worker = none 4 d (lit< tt);
+      target = none 5 d (lit< tt);
       loaded = none 6 d (lit< tt);
       new = none 7 d (lit< tt);
       room = none 8 d (lit< tt);
@@ -123,7 +124,7 @@ pub record IsSaidInRange (said : Said) (number : ℕ) : Type 0 where
   pub names : All (λ (l : Load). is_module_name l.name ≡ true) said.loads
   pub files : All (λ (l : Load). is_file_name l.file ≡ true) said.loads
   pub different_names : AllPairs (λ (l m : Load). l.name ≢ m.name) said.loads
-  pub load_lines : All (λ (l : Load). (1 ≤ l.line) × (l.line < number)) said.loads
+  pub load_lines : All (λ (l : Load). (1 ≤ l.line) × (l.line < number) × (l.line ≤ SCRIPT_LINES)) said.loads
   pub loads_rise : AllPairs (λ (l m : Load). l.line < m.line) said.loads
   pub steps_behind : All (λ step. All (λ (l : Load). l.line < line_of step) said.loads) said.steps
   pub steps_rise : AllPairs (λ step later. line_of step < line_of later) said.steps
@@ -137,7 +138,7 @@ nothing_in_range = record {
   names = All-nil (λ (l : Load). is_module_name l.name ≡ true);
   files = All-nil (λ (l : Load). is_file_name l.file ≡ true);
   different_names = λ i j d before within. absurd (omega arith);
-  load_lines = All-nil (λ (l : Load). (1 ≤ l.line) × (l.line < 1));
+  load_lines = All-nil (λ (l : Load). (1 ≤ l.line) × (l.line < 1) × (l.line ≤ SCRIPT_LINES));
   loads_rise = λ i j d before within. absurd (omega arith);
   steps_behind = All-nil (λ step. All (λ (l : Load). l.line < line_of step) []);
   steps_rise = λ i j d before within. absurd (omega arith);
@@ -146,8 +147,8 @@ nothing_in_range = record {
 }
 
 module _ (said : Said) (number : ℕ) (first : 1 ≤ number) (few : number ≤ SCRIPT_LINES) (h : IsSaidInRange said number) where
-  later_loads : All (λ (l : Load). (1 ≤ l.line) × (l.line < number + 1)) said.loads
-  later_loads = λ i d within. let at = h.load_lines i d within in (at.0, omega (arith, at.1))
+  later_loads : All (λ (l : Load). (1 ≤ l.line) × (l.line < number + 1) × (l.line ≤ SCRIPT_LINES)) said.loads
+  later_loads = λ i d within. let at = h.load_lines i d within in (at.0, omega (arith, at.1), at.2)
 
   later_steps : All (λ step. (1 ≤ line_of step) × (line_of step < number + 1) × (line_of step ≤ SCRIPT_LINES)) said.steps
   later_steps = λ i d within. let at = h.step_lines i d within in (at.0, omega (arith, at.1), at.2)
@@ -209,7 +210,7 @@ module _ (said : Said) (number : ℕ) (first : 1 ≤ number) (few : number ≤ S
     names = All-push (λ (m : Load). is_module_name m.name ≡ true) said.loads l h.names name;
     files = All-push (λ (m : Load). is_file_name m.file ≡ true) said.loads l h.files file;
     different_names = all_pairs_push (λ (m n : Load). m.name ≢ n.name) said.loads l h.different_names new;
-    load_lines = All-push (λ (m : Load). (1 ≤ m.line) × (m.line < number + 1)) said.loads l later_loads (omega (arith, line), omega (arith, line));
+    load_lines = All-push (λ (m : Load). (1 ≤ m.line) × (m.line < number + 1) × (m.line ≤ SCRIPT_LINES)) said.loads l later_loads (omega (arith, line), omega (arith, line), omega (arith, line));
     loads_rise = all_pairs_push (λ (m n : Load). m.line < n.line) said.loads l h.loads_rise (λ k d within. omega (arith, (h.load_lines k d within).1, line));
     steps_behind = λ i d within. absurd (omega (arith, none));
     steps_rise = h.steps_rise;

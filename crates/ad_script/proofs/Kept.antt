@@ -1,21 +1,21 @@
 -- The numbers that a whole text says are in range.
-use Rattle.std.proofs.Common.{◌≡◌, ℕ, ◌+◌, ◌<◌, ◌≤◌, ◌==◌, ◌||◌, Bool, true, false, not, nat_le, nat_lt, List, [], ◌∷◌, length, map, Option, None, Some, IfSome, unwrap_or, Result, Ok, Err, refl, sym, ap, subst, ◌∙◌, arith, tests, lit≤, bytes_eq, codes, cond, lit<}
+use Rattle.std.proofs.Common.{◌≡◌, ℕ, ◌+◌, ◌<◌, ◌≤◌, ◌==◌, Bool, true, false, not, nat_lt, List, [], ◌∷◌, length, Option, None, Some, IfSome, unwrap_or, Result, Ok, Err, refl, subst, arith, tests, lit≤, bytes_eq, codes, cond, lit<}
 use Rattle.std.proofs.lemmas.List.{length-map}
-use Rattle.std.specs.List.{All, list_all}
-use Rattle.std.specs.Option.{is_none, is_some}
-use Rattle.std.proofs.lemmas.Bool.{leb-true, ltb-false}
+use Rattle.std.specs.List.{list_all}
+use Rattle.std.specs.Option.{is_none}
+use Rattle.std.proofs.lemmas.Bool.{ltb-false}
 use Rattle.ad_base.specs.declared.layout.TheConstants.{MODULES, WORKERS}
 use Rattle.ad_script.specs.declared.refusal.Cause.{Cause}
 use Rattle.ad_script.specs.declared.refusal.Cause.TheVariants.{NotText, TooMany, Word}
 use Rattle.ad_script.specs.declared.refusal.ScriptRefusal.{ScriptRefusal}
 use Rattle.ad_script.specs.declared.refusal.ScriptRefusal.TheVariants.{At}
 use Rattle.ad_script.specs.declared.script.Script.{Script}
-use Rattle.ad_script.specs.declared.script.TheConstants.{SCRIPT_LINES}
-use Rattle.ad_script.specs.Forms.{Blank, Calls, Form, Loads, Moves, Stacks, Workers, call_form, form_of, is_file_name, is_module_name, load_form, module_part, move_form, number_of, stack_form, workers_form}
+use Rattle.ad_script.specs.declared.script.TheConstants.{ARGUMENTS, SCRIPT_LINES}
+use Rattle.ad_script.specs.Forms.{Blank, Calls, Form, Loads, Moves, Stacks, Workers, call_form, export_part, form_of, is_export_name, is_file_name, is_module_name, is_target, load_form, module_part, move_form, stack_form, workers_form}
 use Rattle.ad_script.specs.Lines.{is_text_byte, lines_of, without_return, words_of}
 use Rattle.ad_script.specs.Range.{IsInRange}
-use Rattle.ad_script.specs.Script.{Said, after_form, after_line, after_lines, first_cause, form_cause, has_repeats, is_bad_count, is_bad_number, is_loaded, nothing_said, number_of_module, number_or_0, script_from, script_of, script_said, text_cause, unless, with_form, workers_of}
-use Rattle.ad_script.proofs.InRange.{IsPassed, IsSaidInRange, after_blank, after_load, after_step, after_workers, both, different_numbers, found, is_passed, negated, neither, no_load, none_hold, not_found, nothing_in_range, numbers_in_range}
+use Rattle.ad_script.specs.Script.{Said, after_form, after_line, after_lines, form_cause, is_bad_number, is_loaded, nothing_said, number_of_module, number_or_0, script_from, script_of, script_said, text_cause, unless, with_form, workers_of}
+use Rattle.ad_script.proofs.InRange.{IsSaidInRange, after_blank, after_load, after_step, after_workers, both, different_numbers, found, is_passed, negated, neither, no_load, none_hold, not_found, nothing_in_range, numbers_in_range}
 
 -- a move names some module
 module _ (names : List (List ℕ)) where
@@ -57,6 +57,11 @@ module _ (names : List (List ℕ)) where
       from false false false false true e = absurd (no_stack rest e)
       from false false false false false e = absurd cc
 
+-- what is called has the name of an export
+target-export : (target : List ℕ) → is_target target ≡ true → is_export_name (export_part target) ≡ true
+unfolding is_target
+target-export target e = (both (is_module_name (module_part target)) _ e).1
+
 -- no steps were said
 no_steps : (n : ℕ) → not (n == 0) ≡ false → n ≡ 0
 no_steps n e = grind (arith, tests)
@@ -79,7 +84,12 @@ kept_form words said number (Loads name file) first few is none h =
 kept_form words said number (Calls worker target args) first few is none h =
     let passed = is_passed said (Calls worker target args) none in
     let caller : number_or_0 worker < workers_of said = grind (arith, tests, passed.worker) in
-    after_step said number first few h _ refl (caller, (found said.loads (module_part target) no_load (negated (is_loaded said (module_part target)) passed.loaded)).0)
+    after_step said number first few h _ refl (record {
+      caller = caller;
+      loaded = (found said.loads (module_part target) no_load (negated (is_loaded said (module_part target)) passed.loaded)).0;
+      named = target-export target (negated (is_target target) passed.target);
+      few = omega (arith, length-map args number_or_0, ltb-false ARGUMENTS (length args) passed.few);
+    })
 kept_form words said number (Moves names) first few is none h =
     let passed = is_passed said (Moves names) none in
     let loaded = negated (list_all (is_loaded said) names) passed.loaded in
@@ -141,11 +151,11 @@ script_in_range said last h =
       names = h.names;
       files = h.files;
       different_names = h.different_names;
-      first_line = λ i d within. (h.load_lines i d within).0;
+      load_lines = λ i d within. let at = h.load_lines i d within in (at.0, at.2);
       loads_rise = h.loads_rise;
       steps_behind = h.steps_behind;
       steps_rise = h.steps_rise;
-      lines_to = λ i d within. let at = h.step_lines i d within in (at.0, at.2);
+      step_lines = λ i d within. let at = h.step_lines i d within in (at.0, at.2);
       steps = h.steps;
     }
   where

@@ -1,3 +1,4 @@
+pub mod FirstBad
 pub mod InRange
 pub mod Kept
 pub mod Lists

@@ -22,7 +22,7 @@ went_on said new number line lines u = from (after_line said number line)
     from (Err cause) none = absurd none
 
 -- at a line that is refused
-refused_at : (said : Said) (number : ℕ) (line : List ℕ) (lines : List (List ℕ)) (cause : Cause) → after_line said number line ≡ Err cause
+pub refused_at : (said : Said) (number : ℕ) (line : List ℕ) (lines : List (List ℕ)) (cause : Cause) → after_line said number line ≡ Err cause
     → after_lines said number (line ∷ lines) ≡ Err (At number cause)
 unfolding after_lines
 refused_at said number line lines cause e = rw (after_lines, e) refl

@@ -1,5 +1,5 @@
 -- How names and numbers are spelled.
-use Rattle.std.proofs.Common.{◌≡◌, ◌↔◌, ℕ, ◌<◌, ◌≤◌, ◌^◌, ◌&&◌, Bool, true, false, nat_le, nat_lt, ltb, cond, not, ◌==◌, List, [], ◌∷◌, length, take, drop, bytes_eq, codes, Option, Some, None, IfSome, IfNone, IsTrue, refl, sym, ap, ◌∙◌, arith, tests}
+use Rattle.std.proofs.Common.{◌≡◌, ◌↔◌, ℕ, ◌<◌, ◌≤◌, ◌^◌, ◌&&◌, Bool, true, false, nat_le, nat_lt, ltb, cond, not, ◌==◌, List, [], ◌∷◌, length, take, drop, bytes_eq, codes, Option, Some, None, IfSome, IfNone, IsTrue, refl, sym, arith, tests}
 use Rattle.std.specs.List.{list_all}
 use Rattle.std.specs.Char.{digit_value, is_digit}
 use Rattle.std.specs.List.{slice_index}
@@ -7,7 +7,7 @@ use Rattle.std.specs.Str.{IsAscii}
 use Rattle.std.proofs.lemmas.Str.Ascii.{IsAscii-nil, IsAscii-cons}
 use Rattle.std.proofs.lemmas.Bool.Decides.{nat_tests}
 use Rattle.std.specs.Str.Parse.{AllDigits, IsNumeral, digits_value}
-use Rattle.std.proofs.lemmas.Bool.{and_parts, leb-true, ltb-true, lt-ltb, ltb-false}
+use Rattle.std.proofs.lemmas.Bool.{and_parts, leb-true, ltb-true, lt-ltb}
 use Rattle.std.proofs.lemmas.List.Sums.{AllPass-from_list_all, list_all-from_AllPass}
 use Rattle.ad_base.specs.ExportName.{IsExportName, is_export_byte}
 use Rattle.ad_script.specs.Forms.{is_export_name, is_file_name, is_graphic, number_in, number_of}

@@ -1,12 +1,12 @@
 -- The words of a line and the lines of a text, one after another.
-use Rattle.std.proofs.Common.{◌≡◌, ℕ, ◌+◌, ◌-◌, ◌<◌, ◌≤◌, Bool, true, false, cond, not, nat_lt, ◌==◌, List, [], ◌∷◌, ◌++◌, length, take, drop, refl, sym, ap, ◌∙◌, arith, filter, suc, tests}
-use Rattle.std.specs.List.{position_or_len, before_first, after_first, slice_split, onto_first, prefix_len, take_while}
+use Rattle.std.proofs.Common.{◌≡◌, ℕ, ◌+◌, ◌<◌, Bool, true, false, cond, not, nat_lt, ◌==◌, List, [], ◌∷◌, ◌++◌, length, take, drop, refl, sym, ap, ◌∙◌, arith, filter, suc, tests}
+use Rattle.std.specs.List.{position_or_len, before_first, after_first, slice_split, prefix_len, take_while}
 use Rattle.std.proofs.lemmas.Bool.{lt-ltb, le-ltb, ltb-true, ltb-false}
 use Rattle.std.proofs.lemmas.List.{drop_all, take_all}
 use Rattle.std.specs.Borrow.{Bor}
 use Rattle.std.proofs.lemmas.List.{append_assoc, map-append}
 use Rattle.ad_script.specs.Private.Seen.{texts}
-use Rattle.ad_script.specs.Lines.{is_blank, is_comment, is_empty, is_line_end, lines_of, without_empty_end, words_of}
+use Rattle.ad_script.specs.Lines.{is_blank, is_comment, is_empty, is_line_end, lines_of, words_of}
 
 -- either holds
 by_test : {P : Type 0} (b : Bool) → (b ≡ true → P) → (b ≡ false → P) → P

@@ -21,7 +21,7 @@ pub data Form : Type 0 where
   Moves : List (List ℕ) → Form
   Stacks : List ℕ → Form
 
--- the forms by the words behind the first: some, for a call and a move, and so many for the others
+-- The forms by the words behind the first. A call has any number of arguments, and a move at least one name.
 abbrev pub workers_form : List (List ℕ) → Option Form
 workers_form (count ∷ []) = Some (Workers count)
 workers_form other = None
@@ -42,7 +42,7 @@ abbrev pub stack_form : List (List ℕ) → Option Form
 stack_form (worker ∷ []) = Some (Stacks worker)
 stack_form other = None
 
--- the form of these words, where they are in number and in the first of them those of one
+-- the form of these words: none where the first is unknown, or a word is missing or too many
 unfoldable pub form_of : List (List ℕ) → Option Form
 form_of [] = Some Blank
 form_of (first ∷ rest) =
@@ -57,7 +57,8 @@ form_of (first ∷ rest) =
 unfoldable pub is_module_name : List ℕ → Bool
 is_module_name name = nat_lt 0 (length name) && nat_le (length name) 32 && not (is_ascii_digit (slice_index name 0)) && list_all is_name_byte name
 
--- the name of a file: 1 to 255 bytes of ASCII that are no spaces and no controls, of which the first is no `#`
+-- The name of a file: 1 to 255 bytes. What a word of a line has anyhow is said too: its bytes are printing ASCII without
+-- spaces, and the first is no `#`.
 abbrev pub is_graphic : ℕ → Bool
 is_graphic byte = is_in_range 0x21 0x7e byte
 

@@ -2,4 +2,5 @@ pub mod Lines
 pub mod Forms
 pub mod Script
 pub mod Range
+pub mod Laws
 pub mod Private

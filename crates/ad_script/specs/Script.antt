@@ -35,12 +35,13 @@ module_number loads name = position (λ (l : Load). bytes_eq l.name name) loads
 abbrev pub is_loaded : Said → List ℕ → Bool
 is_loaded said name = is_some (module_number said.loads name)
 
--- an item stands again behind where it stands first
+-- a name stands twice
 unfoldable pub has_repeats : List (List ℕ) → Bool
 has_repeats [] = false
 has_repeats (name ∷ names) = list_any (bytes_eq name) names || has_repeats names
 
--- The sentences on a line behind others, for each form that they may hold of. A name isn't spelled so.
+-- The sentences that may hold of a line behind others, each by the forms that it speaks of. A module or a file isn't named as
+-- modules and files are.
 abbrev pub has_bad_name : Form → Bool
 has_bad_name (Loads name file) = not (is_module_name name) || not (is_file_name file)
 has_bad_name (Moves names) = not (list_all is_module_name names)
@@ -58,7 +59,7 @@ is_late said (Workers count) = not (length said.steps == 0)
 is_late said (Loads name file) = not (length said.steps == 0)
 is_late said other = false
 
--- a number isn't spelled so, or isn't a possible number of workers
+-- a number isn't spelled as numbers are, or there can't be so many workers: there are 1 to 64
 abbrev pub is_bad_number : List ℕ → Bool
 is_bad_number word = is_none (number_of word)
 

@@ -1,17 +1,26 @@
 //! Laws of scripts.
 
-ghost use Rattle.std.specs.Prelude.{◌≡◌, ℕ, List, Ok, true};
+ghost use Rattle.std.specs.Prelude.{◌≡◌, ℕ, List, Err, Ok, true};
 ghost use Rattle.std.specs.Str.{IsUtf8};
 ghost use Rattle.ad_script.specs.declared.script.Script.{Script};
+ghost use Rattle.ad_script.specs.declared.refusal.Cause.{Cause};
 ghost use Rattle.ad_script.specs.Forms.{is_file_name};
+ghost use Rattle.ad_script.specs.Laws.{IsFirstBadLine};
 ghost use Rattle.ad_script.specs.Range.{IsInRange};
 ghost use Rattle.ad_script.specs.Script.{script_of};
 
+use crate::refusal::ScriptRefusal;
 use crate::script::{ARGUMENTS, SCRIPT_LINES};
 
 /// The numbers that a script says are in range.
 pub fn law_in_range()
     ensures { (bytes : List ℕ) (s : Script) → script_of bytes ≡ Ok s → IsInRange s }
+{}
+
+/// A text is refused at its first bad line, with the first cause why that is refused behind the lines before it.
+pub fn law_first_bad_line()
+    ensures refused { (text : List ℕ) (line : ℕ) (cause : Cause) → script_of text ≡ Err (ScriptRefusal.At line cause) → IsFirstBadLine text line cause }
+    ensures first { (text : List ℕ) (line : ℕ) (cause : Cause) → IsFirstBadLine text line cause → script_of text ≡ Err (ScriptRefusal.At line cause) }
 {}
 
 /// Lines of a script at most, and arguments of a call.

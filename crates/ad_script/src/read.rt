@@ -9,7 +9,8 @@ use crate::script::Script;
 use crate::text::cut_line;
 use std::alloc::Global;
 
-/// What a script says. It is refused at its first line that is refused, with the first cause in the order of the table.
+/// What a script says. A text is refused at its first bad line, with the first cause that holds of it: not text, too many lines,
+/// words, arguments, late, numbers, worker, export, module, said before, too many modules. Without memory it is `OutOfMemory`.
 pub fn read_script(alloc: Global, bytes: &[u8]) -> Result<Script, ScriptRefusal>
     ensures script { IfOk result (λ s. script_of bytes.now ≡ Ok s) }
     ensures refusal { IfErr result (λ r. (script_of bytes.now ≡ Err r) ⊎ (r ≡ ScriptRefusal.OutOfMemory)) }

@@ -9,15 +9,15 @@ use std::fmt;
 pub enum Cause {
     /// The first word is unknown, a word is missing or too many, or a name isn't spelled as names are.
     Word,
-    /// A number isn't spelled as numbers are, or there can't be so many workers.
+    /// A number isn't spelled as numbers are, or the number of workers isn't 1 to 64.
     Number,
     /// No module of this name was loaded.
     Module,
     /// There is no such worker.
     Worker,
-    /// The workers were counted before, a module of this name was loaded before, or a module is moved twice.
+    /// The workers were counted before, a module of this name was loaded before, or a line moves a module twice.
     Duplicate,
-    /// It stands behind a call, a move or a fresh stack.
+    /// Workers are counted, or a module is loaded, behind a call, a move or a fresh stack.
     LateLoad,
     /// There are more lines, or more modules, than there may be.
     TooMany,

@@ -2,7 +2,7 @@
 
 use ad_base::{Args, Name, Sequence, Words};
 
-/// The most lines that a script may have, those that load its modules included.
+/// The most lines that a script may have, those that say nothing included.
 pub const SCRIPT_LINES: u64 = 20_000;
 
 /// The most arguments that a call may have.

@@ -1,8 +1,8 @@
 //! Texts that are scripts, with what they say, and texts that are refused, each with its line and its cause.
 
 use crate::{
-    ARGUMENTS, Cause, Load, SCRIPT_LINES, Script, ScriptRefusal, Step, law_in_range, law_most,
-    read_script,
+    ARGUMENTS, Cause, Load, SCRIPT_LINES, Script, ScriptRefusal, Step, law_first_bad_line,
+    law_in_range, law_most, read_script,
 };
 use std::alloc::Global;
 use std::fmt::Write;
@@ -310,8 +310,10 @@ fn stacks(alloc: Global, count: u64, last: &[u8]) -> Result<Vec<u8>, Fail> {
 fn has_at_most_20_000_lines(rt: HostRuntime) -> Result<(), Fail> {
     assert_eq!(rt; SCRIPT_LINES, 20_000);
     assert_eq!(rt; ARGUMENTS, 8);
-    let cases: [(u64, &[u8], Option<Cause>); 6] = [
+    let cases: [(u64, &[u8], Option<Cause>); 8] = [
         (20_000, b"", None),
+        (20_000, b"\r", Some(Cause::TooMany)),
+        (0, b"", None),
         (19_999, b"stack 0", None),
         (20_000, b"stack 0", Some(Cause::TooMany)),
         (20_000, b"\n", Some(Cause::TooMany)),
@@ -329,8 +331,36 @@ fn has_at_most_20_000_lines(rt: HostRuntime) -> Result<(), Fail> {
     Ok(())
 }
 
+/// A text with so many letters behind it.
+fn with_letters(alloc: Global, text: &[u8], count: u64) -> Result<Vec<u8>, Fail> {
+    let mut longer = Vec::from_slice(alloc, text)?;
+    for _ in 0..count {
+        longer.push(b'e')?;
+    }
+    Ok(longer)
+}
+
+#[test]
+fn names_have_at_most_so_many_bytes(rt: HostRuntime) -> Result<(), Fail> {
+    let cases: [(&[u8], u64, Option<(u64, Cause)>); 6] = [
+        (b"load m f\nmove m\nload ", 1, Some((3, Cause::Word))),
+        (b"load m ", 255, None),
+        (b"load m ", 256, Some((1, Cause::Word))),
+        (b"load m f\ncall 0 m.", 128, None),
+        (b"load m f\ncall 0 m.", 129, Some((2, Cause::Export))),
+        (b"load m f\nmove ", 33, Some((2, Cause::Word))),
+    ];
+    for (text, count, refused) in cases {
+        let longer = with_letters(rt.alloc(), text, count)?;
+        let at = refused.map(|(line, cause)| ScriptRefusal::At { line, cause });
+        assert_eq!(rt; refusal(rt.alloc(), &longer), at, "{text:?}");
+    }
+    Ok(())
+}
+
 #[test]
 fn laws_are_called() {
+    law_first_bad_line();
     law_in_range();
     law_most();
 }

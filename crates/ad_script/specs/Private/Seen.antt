@@ -1,5 +1,5 @@
 -- How values of the code are seen.
-use Rattle.std.specs.Prelude.{◌≡◌, ℕ, List, map, Option, Some, Result, Ok, Err, IfErr, IfOk}
+use Rattle.std.specs.Prelude.{◌≡◌, ℕ, List, map, Result, Ok, Err}
 use Rattle.std.specs.Borrow.{Bor}
 use Rattle.ad_script.specs.declared.forms.Form as read
 use Rattle.ad_script.specs.declared.forms.Form.TheVariants as variants

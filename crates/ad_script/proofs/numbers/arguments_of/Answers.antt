@@ -1,4 +1,4 @@
-use Rattle.std.proofs.Common.{◌≡◌, ◌∙◌, sym, ap, not}
+use Rattle.std.proofs.Common.{◌∙◌, sym, ap, not}
 use Rattle.std.specs.Option.{is_some}
 use Rattle.ad_script.specs.Script.{is_bad_number}
 use Rattle.ad_script.proofs.Lists.{any_at}

@@ -1,4 +1,4 @@
-use Rattle.std.proofs.Common.{◌≡◌, ◌∙◌}
+use Rattle.std.proofs.Common.{◌∙◌}
 use Rattle.ad_script.proofs.Spelling.{decimal_number, hexadecimal, number-in-is}
 use Rattle.ad_script.proofs.numbers.number_of.Goals as goal
 

@@ -1,8 +1,8 @@
-use Rattle.std.proofs.Common.{◌≡◌, ◌<◌, ◌∙◌, ◌==◌, ◌∷◌, [], List, ℕ, sym, ap, inl, inr, ⊎_elim, length, arith, tests, true, false}
+use Rattle.std.proofs.Common.{◌≡◌, ◌∙◌, ◌==◌, sym, ap, inl, inr, ⊎_elim, length, arith, tests, true}
 use Rattle.std.proofs.lemmas.List.{nil_from_length}
 use Rattle.ad_script.specs.Lines.{lines_of}
 use Rattle.ad_script.specs.Private.Seen.{said_seen}
-use Rattle.ad_script.specs.Script.{after_lines, script_said}
+use Rattle.ad_script.specs.Script.{after_lines}
 use Rattle.ad_script.proofs.Reading.{no_more, script_read, script_refused, stops_at, went_on}
 use Rattle.ad_script.proofs.Words.{lines_cut, no_lines}
 use Rattle.ad_script.proofs.read.read_script.Goals as goal

@@ -1,4 +1,4 @@
-use Rattle.std.proofs.Common.{◌≡◌, ◌∙◌, sym}
+use Rattle.std.proofs.Common.{◌∙◌, sym}
 use Rattle.ad_script.proofs.Lists.{no_repeats, repeats_found, repeats_later}
 use Rattle.ad_script.proofs.said.has_repeats.Goals as goal
 

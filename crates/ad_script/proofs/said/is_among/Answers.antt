@@ -1,4 +1,4 @@
-use Rattle.std.proofs.Common.{◌≡◌, ◌∙◌, sym, bytes_eq, rules}
+use Rattle.std.proofs.Common.{◌∙◌, bytes_eq, rules}
 use Rattle.std.proofs.lemmas.Iterator.{YieldsList-from_slice}
 use Rattle.std.proofs.lemmas.Iterator.Search.{any_from_yields_List}
 use Rattle.ad_script.proofs.Lists.{any_text}

@@ -1,6 +1,6 @@
 use Rattle.std.proofs.Common.{◌≡◌, ◌<◌, ◌∙◌, ◌++◌, ◌==◌, [], sym, ap, subst, length, append-nil, arith, tests, true, false}
 use Rattle.std.proofs.lemmas.List.{nil_from_length}
-use Rattle.ad_script.specs.Lines.{is_comment, is_blank, words_of}
+use Rattle.ad_script.specs.Lines.{is_comment, words_of}
 use Rattle.ad_script.specs.Private.Seen.{texts}
 use Rattle.ad_script.proofs.Words.{no_words, push_word, words_comment, words_empty, words_first}
 use Rattle.ad_script.proofs.text.words_of.Goals as goal

@@ -1,4 +1,4 @@
-use Rattle.std.proofs.Common.{◌≡◌, ◌∙◌, sym, ap}
+use Rattle.std.proofs.Common.{◌∙◌, sym, ap}
 use Rattle.std.specs.Option.{is_some}
 use Rattle.ad_script.specs.Private.Seen.{said_seen}
 use Rattle.ad_script.specs.Script.{is_loaded}
