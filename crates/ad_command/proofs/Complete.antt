@@ -1,6 +1,6 @@
 -- A command whose words, files and exports are right is done.
 use Rattle.std.proofs.Common.{◌≡◌, ℕ, ◌≤◌, List, [], ◌∷◌, ◌++◌, length, map, Ok, refl, sym, ap, subst}
-use Rattle.std.specs.Prelude.{Result, nat_lt, if◌then◌else◌, Some, None}
+use Rattle.std.specs.Prelude.{Result, nat_lt, if◌then◌else◌, Some}
 use Rattle.std.proofs.lemmas.Bool.{le-ltb}
 use Rattle.ad_base.specs.declared.image.Image.{Image}
 use Rattle.ad_base.specs.declared.layout.TheConstants.{FILE_BYTES}
@@ -14,7 +14,7 @@ use Rattle.ad_script.specs.declared.script.Script.{Script}
 use Rattle.ad_script.specs.Script.{script_of}
 use Rattle.ad_command.specs.declared.trouble.Trouble.{Trouble}
 use Rattle.ad_command.specs.declared.trouble.Trouble.TheVariants.{NoExport, TooLarge, Usage}
-use Rattle.ad_command.specs.Chain.{Chain, Done, Gives, ImageAt, Judge, ModuleFile, Refuse, ◌>>=◌, each_in_turn, given, judged}
+use Rattle.ad_command.specs.Chain.{Chain, Done, Gives, Judge, ModuleFile, Refuse, ◌>>=◌, each_in_turn, given, judged}
 use Rattle.ad_command.specs.Command.{Job, Lines, Predicted, Shown, Work, command, job_in, job_of, shown_at, shown_in, work_of}
 use Rattle.ad_command.specs.Loading.{AreLinked, IsLinked, file_of, fixed_behind, image_at, loaded_image, loaded_images, module_of, script_in}
 use Rattle.ad_command.specs.Trouble.{refused_module, refused_script}

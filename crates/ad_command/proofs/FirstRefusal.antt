@@ -1,7 +1,6 @@
 -- The first load that is refused ends the chain of a script's loads.
-use Rattle.std.proofs.Common.{◌≡◌, ◌⊎◌, ℕ, List, [], ◌∷◌, ◌++◌, map, Result, Err, inl, inr, refl, sym, ap, subst}
+use Rattle.std.proofs.Common.{◌≡◌, ℕ, List, [], ◌∷◌, ◌++◌, map, Err, inl, inr, refl, sym, ap, subst}
 use Rattle.ad_base.specs.declared.image.Image.{Image}
-use Rattle.ad_base.specs.declared.place.Place.{Place}
 use Rattle.ad_link.specs.declared.refusal.LinkRefusal.{LinkRefusal}
 use Rattle.ad_link.specs.Plan.{IsPlan, IsRefused, IsRefusedAt, Planned}
 use Rattle.ad_script.specs.declared.script.Load.{Load}

@@ -1,9 +1,9 @@
 -- Which faults of a command tell of its files: a failed read where the count of faults rose, and names that were asked for
 -- last.
-use Rattle.std.proofs.Common.{◌≡◌, ◌≢◌, ◌⊎◌, ◌==◌, ℕ, Bool, true, false, List, [], ◌∷◌, ◌++◌, Option, None, Some, IfSome, Result, Ok, Err, inl, inr, ⊎_elim, refl, sym, ap, subst, ◌∙◌, append_assoc, length}
-use Rattle.std.specs.Prelude.{bytes_eq, codes, nat_lt, if◌then◌else◌}
+use Rattle.std.proofs.Common.{◌≡◌, ◌≢◌, ◌⊎◌, ℕ, Bool, true, false, List, [], ◌∷◌, ◌++◌, Option, None, Some, Result, Ok, Err, inl, inr, ⊎_elim, sym, ap, ◌∙◌, length}
+use Rattle.std.specs.Prelude.{nat_lt, if◌then◌else◌}
 use Rattle.ad_base.specs.Count.{Rose}
-use Rattle.ad_base.specs.Outside.{Outside, Told}
+use Rattle.ad_base.specs.Outside.{Told}
 use Rattle.ad_base.specs.declared.image.Image.{Image}
 use Rattle.ad_base.specs.declared.layout.TheConstants.{FILE_BYTES}
 use Rattle.ad_base.specs.declared.place.Place.{Place}
@@ -20,8 +20,8 @@ use Rattle.ad_script.specs.Script.{script_of}
 use Rattle.std.specs.Option.{option_map_or}
 use Rattle.ad_command.specs.declared.trouble.Trouble.{Trouble}
 use Rattle.ad_command.specs.declared.trouble.Trouble.TheVariants.{Memory, Module, NoExport, Read, TooLarge, Usage}
-use Rattle.ad_command.specs.Chain.{Ask, Chain, Done, Judge, MayEnd, ModuleFile, Refuse, Serves, Verdict, ◌>>=◌, each_in_turn, given, judged}
-use Rattle.ad_command.specs.Command.{Job, Lines, Predicted, Shown, Work, command, job_in, job_of, shown_in, work_of}
+use Rattle.ad_command.specs.Chain.{Ask, Chain, Done, Judge, MayEnd, ModuleFile, Refuse, Verdict, ◌>>=◌, each_in_turn, given, judged}
+use Rattle.ad_command.specs.Command.{Lines, Predicted, Shown, command, job_in, job_of, shown_in, work_of}
 use Rattle.ad_command.specs.Loading.{file_of, fixed_behind, image_at, loaded_image, loaded_images, module_of, script_in}
 use Rattle.ad_command.specs.Trouble.{refused_module, refused_script}
 use Rattle.ad_words.specs.Words.{Command, Predict, Seq, Show, command_of}

@@ -1,5 +1,5 @@
 -- Over any files a chain has an answer.
-use Rattle.std.proofs.Common.{◌≡◌, ⊎_elim, ℕ, List, [], ◌∷◌, Result, Ok, Err, refl}
+use Rattle.std.proofs.Common.{⊎_elim, ℕ, List, [], ◌∷◌, Result, Ok, Err, refl}
 use Rattle.ad_link.specs.declared.refusal.LinkRefusal.TheVariants.{Reloc}
 use Rattle.ad_link.proofs.OneAnswer.{some_plan}
 use Rattle.ad_reloc.proofs.SomeImage as image

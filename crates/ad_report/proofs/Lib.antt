@@ -1,3 +1,4 @@
 pub mod AtLine
 pub mod Indices
 pub mod Numbered
+pub mod Wrapped

@@ -12,9 +12,11 @@ mod script;
 #[cfg(test)]
 mod tests;
 mod text;
+mod totals;
 
 pub use calls::notes;
 pub use linked::listing;
 pub use printing::print;
 pub use script::module_name;
 pub use text::report;
+pub use totals::summary;

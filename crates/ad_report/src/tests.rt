@@ -3,7 +3,7 @@
 ghost use Rattle.std.specs.Prelude.{◌≡◌};
 ghost use Rattle.ad_report.specs.Report.{AreMovesInOrder};
 
-use crate::report;
+use crate::{report, summary};
 use ad_base::{
     Args, Book, Device, End, Entry, History, Kind, MoveEnd, Moved, Name, Notes, OutOfMemory, Place,
     Row, Sequence,
@@ -250,5 +250,45 @@ fn prints_the_calls_of_two_workers_in_the_order_of_the_script(rt: HostRuntime) -
     history.push(entry(6, 0, 3, Notes::new(), End::Fault));
     let text = report(alloc, &script, &[book(alloc, history)], &[], &[])?;
     assert_eq!(rt; std::str::from_utf8(text.as_slice())?, SHARED);
+    Ok(())
+}
+
+/// A call that ended so.
+fn ended(end: End) -> Entry {
+    entry(4, 0, 2, Notes::new(), end)
+}
+
+#[test]
+fn sums_up_what_calls_returned(rt: HostRuntime) -> Result<(), Fail> {
+    let alloc = rt.alloc();
+    let books = [
+        two_calls(alloc, ended(End::Returned(1)), ended(End::Returned(2)))?,
+        two_calls(alloc, ended(End::Returned(2)), ended(End::Returned(5)))?,
+        two_calls(alloc, ended(End::Returned(4)), ended(End::Returned(5)))?,
+        two_calls(alloc, ended(End::Fault), ended(End::Returned(10)))?,
+        one_call(alloc, ended(End::Abort(3)))?,
+    ];
+    let rows = [row(Kind::Stack, 1, place(56_640, 55, 4, 2), 8, 1)];
+    let text = summary(alloc, 8, &books, &moves(), &rows)?;
+    assert_eq!(rt;
+        std::str::from_utf8(text.as_slice())?,
+        "gen 8 calls 9 moves 2 mappings 1 sum 29\n"
+    );
+    Ok(())
+}
+
+#[test]
+fn a_sum_wraps(rt: HostRuntime) -> Result<(), Fail> {
+    let alloc = rt.alloc();
+    let most = End::Returned(u64::MAX);
+    let books = [
+        two_calls(alloc, ended(most), ended(End::Returned(3)))?,
+        one_call(alloc, ended(most))?,
+    ];
+    let text = summary(alloc, 19_000, &books, &[], &[])?;
+    assert_eq!(rt;
+        std::str::from_utf8(text.as_slice())?,
+        "gen 19000 calls 3 moves 0 mappings 0 sum 1\n"
+    );
     Ok(())
 }

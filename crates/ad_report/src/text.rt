@@ -109,7 +109,7 @@ fn calls_of(indices: &[Vec<CallAt>], number: u64) -> &[CallAt]
 }
 
 /// How many calls the books have.
-fn calls(books: &[Book]) -> u128
+pub fn calls(books: &[Book]) -> u128
     ensures { result ≡ sum_by (λ b. length b.entries) (map contents_of books.now) }
 {
     let mut calls = 0;

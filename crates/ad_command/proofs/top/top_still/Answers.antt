@@ -1,8 +1,7 @@
 use Rattle.std.proofs.Common.{◌≡◌, map, string_bytes, Err, Ok, Some, ⊎_elim, ap, refl, sym, subst, ◌∙◌}
 use Rattle.ad_base.specs.Book.{contents_of}
-use Rattle.ad_command.specs.declared.trouble.Trouble.{Trouble}
-use Rattle.ad_command.specs.declared.trouble.Trouble.TheVariants.{Memory, Read, TooLarge}
-use Rattle.ad_command.specs.Command.{Work, command}
+use Rattle.ad_command.specs.declared.trouble.Trouble.TheVariants.{Read, TooLarge}
+use Rattle.ad_command.specs.Command.{command}
 use Rattle.ad_command.specs.Ending.{Ending, IsDone, LeavesDone}
 use Rattle.ad_command.proofs.Answering.{answers-refused, answers-written, asks, is-due-work, not-done, stays, too-large, unread}
 use Rattle.ad_command.proofs.Frank.{frank-command}
