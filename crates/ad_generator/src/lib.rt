@@ -13,4 +13,4 @@ mod tests;
 pub use files::built;
 pub use laws::{law_files, law_images, law_instructions, law_plans, law_worked_modules};
 pub use names::BUILT_MODULES;
-pub use script::{SCRIPT_LINES, built_script};
+pub use script::{MOST_GENERATED, built_script};

@@ -13,7 +13,7 @@ use ad_base::OutOfMemory;
 use std::alloc::Global;
 
 /// How many lines may follow the loads, at most.
-pub const SCRIPT_LINES: u64 = 19_000;
+pub const MOST_GENERATED: u64 = 19_000;
 
 /// How many workers the script has.
 pub(crate) const SCRIPT_WORKERS: u64 = 4;
@@ -23,7 +23,7 @@ pub(crate) const SCRIPT_WORKERS: u64 = 4;
 #[tactic(auto, unfolding(crate::specs::Script::script_text))]
 pub fn built_script(alloc: Global, n: u64) -> Result<Vec<u8>, OutOfMemory>
     requires some { 1 ≤ n }
-    requires few { n ≤ SCRIPT_LINES }
+    requires few { n ≤ MOST_GENERATED }
     ensures { IfOk result (λ text. text.items ≡ script_text n) }
 {
     let mut text = String::new(alloc);
