@@ -16,7 +16,9 @@ use Rattle.ad_core.specs.Plain.{PlainOutcome, plain_call}
 use Rattle.ad_core.specs.Image.{segments_of, fresh_stack}
 use Rattle.ad_core.specs.Turn.{export_offset}
 use Rattle.ad_call.specs.declared.call.Call.{Call}
+use Rattle.ad_call.specs.Asked.{asked_by_all, asked_in_call}
 use Rattle.ad_call.specs.Call.{HasData, after_call, entry_of, outcome_of}
+use Rattle.ad_call.specs.Private.Held.{Held}
 
 -- the offset of an export that is there
 pub offset_there : (image : Image) (number : ℕ) (export : Export) → slice_get image.exports number ≡ Some export → export_offset image number ≡ export.offset
@@ -35,37 +37,38 @@ pub record IsGiven (image : Image) (book : Contents) (c : Call) (entry sp : ℕ)
 abbrev pub memory_of : Image → Place → Place → List ℕ → List ℕ → List ℕ → List ℕ → List ℕ → Memory
 memory_of image under stack bytes fixed writable notes queue = record { segments = segments_of image under stack bytes fixed writable; notes = notes; queue = queue }
 
--- what the code hands to the machine
-abbrev pub ran_on : Image → ℕ → Call → List ℕ → ℕ → ℕ → List ℕ → List ℕ → List ℕ → List ℕ → PlainOutcome
-ran_on image fuel c args entry sp notes writable fixed device = plain_call fuel entry args sp (memory_of image c.under c.stack fresh_stack fixed writable notes device)
-
-module _ (image : Image) (fuel : ℕ) (book : Contents) (c : Call) (args : List ℕ) (entry sp : ℕ) (notes writable fixed device : List ℕ) (given : IsGiven image book c entry sp notes writable fixed device) where
+module _ (image : Image) (fuel : ℕ) (book : Contents) (c : Call) (args : List ℕ) (entry sp : ℕ) (notes writable fixed device : List ℕ) (given : IsGiven image book c entry sp notes writable fixed device) (bytes : Held)
+    (fresh : bytes ≡ record { stack = fresh_stack; fixed = fixed; writable = writable }) where
   -- the machine's run is that of the call
-  same_run : ran_on image fuel c args entry sp notes writable fixed device ≡ outcome_of image fuel book c args
+  pub same_run : plain_call fuel entry args sp (memory_of image c.under c.stack bytes.stack bytes.fixed bytes.writable notes device) ≡ outcome_of image fuel book c args
   unfolding outcome_of
-  same_run = λ j. plain_call fuel (given.entry_is j) args (given.sp_is j) (memory_of image c.under c.stack fresh_stack (given.fixed_is j) (given.writable_is j) (given.no_note j) (given.device_is j))
+  same_run =
+      (λ j. plain_call fuel entry args sp (memory_of image c.under c.stack (fresh j).stack (fresh j).fixed (fresh j).writable notes device))
+      ∙ (λ j. plain_call fuel (given.entry_is j) args (given.sp_is j) (memory_of image c.under c.stack fresh_stack (given.fixed_is j) (given.writable_is j) (given.no_note j) (given.device_is j)))
 
-  module _ (seen : Image) (under stack : Place) (end : End) (bytes made written kept left copy : List ℕ) (entries : List Entry) where
-    -- what the run left, and the entry that was appended
-    pub record Left : Type 0 where
-      pub end_is : end ≡ (ran_on image fuel c args entry sp notes writable fixed device).end
-      pub memory : memory_of seen under stack bytes kept written made left ≡ (ran_on image fuel c args entry sp notes writable fixed device).memory
-      pub copied : copy ≡ args
-      pub appended : entries ≡ book.entries ++ record { line = c.line; worker = c.worker; export = c.export; args = copy; under = c.under; stack = c.stack; notes = made; end = end } ∷ []
+  -- what it asks is what the call asks
+  pub run_asks : asked_by_all image c.under c.stack (plain_call fuel entry args sp (memory_of image c.under c.stack bytes.stack bytes.fixed bytes.writable notes device)).accesses ≡ asked_in_call image fuel book c args
+  unfolding asked_in_call
+  run_asks = ap (λ (o : PlainOutcome). asked_by_all image c.under c.stack o.accesses) same_run
 
-    -- this is the book after the call
-    pub call_made : Left → record { writable = written; fixed = kept; device = left; entries = entries } ≡ after_call image fuel book c args
-    unfolding after_call
-    call_made l =
-        let o = outcome_of image fuel book c args in
-        let same = same_run in
-        let ended = l.end_is ∙ ap (λ (r : PlainOutcome). r.end) same in
-        let memory = l.memory ∙ ap (λ (r : PlainOutcome). r.memory) same in
-        let copied = l.copied in
-        let made_entry : Entry = record { line = c.line; worker = c.worker; export = c.export; args = copy; under = c.under; stack = c.stack; notes = made; end = end } in
-        let is : made_entry ≡ entry_of c args o = λ j. record { line = c.line; worker = c.worker; export = c.export; args = copied j; under = c.under; stack = c.stack; notes = (memory j).notes; end = ended j } in
-        let all = l.appended ∙ ap (λ (x : Entry). book.entries ++ x ∷ []) is in
-        λ j. record { writable = bytes_of_role is_data (memory j).segments; fixed = bytes_of_role is_fixed_data (memory j).segments; device = (memory j).queue; entries = all j }
+-- what the run of a call left, and the entry that was appended
+pub record Left (image : Image) (fuel : ℕ) (book : Contents) (c : Call) (args : List ℕ) (seen : Image) (under stack : Place) (end : End) (bytes made written kept left copy : List ℕ) (entries : List Entry) : Type 0 where
+  pub end_is : end ≡ (outcome_of image fuel book c args).end
+  pub memory : memory_of seen under stack bytes kept written made left ≡ (outcome_of image fuel book c args).memory
+  pub copied : copy ≡ args
+  pub appended : entries ≡ book.entries ++ record { line = c.line; worker = c.worker; export = c.export; args = copy; under = c.under; stack = c.stack; notes = made; end = end } ∷ []
+
+-- this is the book after the call
+pub call_made : (image : Image) (fuel : ℕ) (book : Contents) (c : Call) (args : List ℕ) (seen : Image) (under stack : Place) (end : End) (bytes made written kept left copy : List ℕ) (entries : List Entry)
+    → Left image fuel book c args seen under stack end bytes made written kept left copy entries
+    → record { writable = written; fixed = kept; device = left; entries = entries } ≡ after_call image fuel book c args
+unfolding after_call
+call_made image fuel book c args seen under stack end bytes made written kept left copy entries l =
+    let o = outcome_of image fuel book c args in
+    let made_entry : Entry = record { line = c.line; worker = c.worker; export = c.export; args = copy; under = c.under; stack = c.stack; notes = made; end = end } in
+    let is : made_entry ≡ entry_of c args o = λ j. record { line = c.line; worker = c.worker; export = c.export; args = l.copied j; under = c.under; stack = c.stack; notes = (l.memory j).notes; end = l.end_is j } in
+    let all = l.appended ∙ ap (λ (x : Entry). book.entries ++ x ∷ []) is in
+    λ j. record { writable = bytes_of_role is_data (l.memory j).segments; fixed = bytes_of_role is_fixed_data (l.memory j).segments; device = (l.memory j).queue; entries = all j }
 
 -- segments that lie alike have data of equal lengths
 pub has_data : (i seen image : Image) (under stack under' stack' : Place) (bytes fixed writable bytes' kept written : List ℕ)

@@ -1,8 +1,10 @@
-pub mod BusPieces
+pub mod Asks
 pub mod Calls
 pub mod Outside
 pub mod PageWords
+pub mod PiecesAt
 pub mod Puts
 pub mod Reached
 pub mod Replaced
 pub mod Spotted
+pub mod Touched

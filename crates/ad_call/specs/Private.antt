@@ -1,6 +1,7 @@
 -- Definitions that serve private functions alone.
+pub mod Asks
 pub mod Held
-pub mod InBus
+pub mod InPieces
 pub mod Spots
 pub mod Stored
 pub mod WholeWords

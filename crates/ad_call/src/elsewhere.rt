@@ -1,67 +1,99 @@
 //! What an access finds that isn't the most common one: it may be to region 1, or to any piece.
 
-ghost use Rattle.ad_call.specs.Private.InBus.{segments_in};
+ghost use Rattle.ad_base.specs.Segments.{Fetch, Load, Store};
+ghost use Rattle.ad_call.specs.Private.Asks.{told_asked};
+ghost use Rattle.ad_call.specs.Private.InPieces.{segments_in};
 ghost use Rattle.ad_core.specs.Bus.{IsLoaded, IsStored};
 ghost use Rattle.ad_core.specs.Memory.{fetched, loaded, stored};
 ghost use Rattle.ad_isa.specs.Words.{IsSize};
-ghost use Rattle.std.specs.Prelude.{◌≡◌, ◌%◌, ◌^◌, ◌<◌, IfOk};
+ghost use Rattle.std.specs.Prelude.{◌≡◌, ◌%◌, ◌^◌, ◌<◌, ◌++◌, option_map, IfOk};
 
-use crate::bus::ModuleBus;
+use crate::pages::Pages;
+use crate::pieces::Pieces;
 use crate::spot::locate;
 use ad_base::{FETCH_BYTES, GATE, REGION_BYTES};
 use ad_core::{Fetched, Refusal, service_at};
 
-impl ModuleBus<'_> {
-    /// What is found where an instruction is fetched, at the gate, a service or a byte of any piece.
-    #[inline(never)]
-    pub fn fetch_elsewhere(&self, at: u64) -> Fetched
-        requires { at % FETCH_BYTES ≡ 0 }
-        ensures { result ≡ fetched (segments_in self.now) at }
-    {
-        if at == GATE {
-            return Fetched::Gate;
-        }
-        if at / REGION_BYTES == 1 {
-            return service_at(at);
-        }
-        match locate(self.image, self.under, self.stack, at) {
-            Some(spot) => self.word(spot),
-            None => Fetched::Fault,
-        }
+/// What is found where an instruction is fetched, at the gate, a service or a byte of any piece.
+#[inline(never)]
+pub fn fetch_elsewhere<P: Pages>(pages: &mut P, pieces: &Pieces, at: u64) -> Fetched
+    requires aligned { at % FETCH_BYTES ≡ 0 }
+    requires place { P.place pages.old ≡ pieces.now.under }
+    ensures found { result ≡ fetched (segments_in pieces.now) at }
+    ensures place { P.place pages.new ≡ P.place pages.old }
+    ensures cells { P.cells pages.new ≡ P.cells pages.old }
+    ensures origin { P.origin pages.new ≡ P.origin pages.old }
+    ensures asked { P.asked pages.new ≡ option_map
+        (λ list. list ++ told_asked pieces.now.image.now pieces.now.under pieces.now.stack Fetch FETCH_BYTES at) (P.asked pages.old) }
+{
+    if at == GATE {
+        return Fetched::Gate;
     }
-
-    /// Loads so many bytes as a number, from a byte of any piece.
-    #[inline(never)]
-    pub fn load_elsewhere(&self, at: u64, size: u8) -> Result<u64, Refusal>
-        requires size { IsSize size }
-        requires aligned { at % size ≡ 0 }
-        ensures found { IsLoaded result (loaded size (segments_in self.now) at) }
-        ensures fits { IfOk result (λ number. number < 256 ^ size) }
-    {
-        if at / REGION_BYTES == 1 {
-            return Err(Refusal::Fault);
-        }
-        match locate(self.image, self.under, self.stack, at) {
-            Some(spot) => Ok(self.number(spot, size)),
-            None => Err(Refusal::Fault),
-        }
+    if at / REGION_BYTES == 1 {
+        return service_at(at);
     }
+    match locate(pages, pieces.image, pieces.stack, at) {
+        Some(spot) => pieces.word(spot),
+        None => Fetched::Fault,
+    }
+}
 
-    /// Stores so many low bytes of a value, to a byte of any piece.
-    #[inline(never)]
-    pub fn store_elsewhere(&mut self, at: u64, size: u8, value: u64) -> Result<(), Refusal>
-        requires size { IsSize size }
-        requires aligned { at % size ≡ 0 }
-        ensures segments { IsStored result (segments_in self.old) (segments_in self.new) (stored size value (segments_in self.old) at) }
-        ensures notes { self.new.notes ≡ self.old.notes }
-        ensures device { self.new.device ≡ self.old.device }
-    {
-        if at / REGION_BYTES == 1 {
-            return Err(Refusal::Fault);
-        }
-        match locate(self.image, self.under, self.stack, at) {
-            Some(spot) => self.bytes.put(spot, size, value),
-            None => Err(Refusal::Fault),
-        }
+/// Loads so many bytes as a number, from a byte of any piece.
+#[inline(never)]
+pub fn load_elsewhere<P: Pages>(
+    pages: &mut P,
+    pieces: &Pieces,
+    at: u64,
+    size: u8,
+) -> Result<u64, Refusal>
+    requires size { IsSize size }
+    requires aligned { at % size ≡ 0 }
+    requires place { P.place pages.old ≡ pieces.now.under }
+    requires cells { P.cells pages.old ≡ pieces.now.image.now.cells }
+    ensures found { IsLoaded result (loaded size (segments_in pieces.now) at) }
+    ensures fits { IfOk result (λ number. number < 256 ^ size) }
+    ensures place { P.place pages.new ≡ P.place pages.old }
+    ensures cells { P.cells pages.new ≡ P.cells pages.old }
+    ensures origin { P.origin pages.new ≡ P.origin pages.old }
+    ensures asked { P.asked pages.new ≡ option_map
+        (λ list. list ++ told_asked pieces.now.image.now pieces.now.under pieces.now.stack Load size at) (P.asked pages.old) }
+{
+    if at / REGION_BYTES == 1 {
+        return Err(Refusal::Fault);
+    }
+    match locate(pages, pieces.image, pieces.stack, at) {
+        Some(spot) => Ok(pieces.number(pages, spot, size)),
+        None => Err(Refusal::Fault),
+    }
+}
+
+/// Stores so many low bytes of a value, to a byte of any piece.
+#[inline(never)]
+pub fn store_elsewhere<P: Pages>(
+    pages: &mut P,
+    pieces: &mut Pieces,
+    at: u64,
+    size: u8,
+    value: u64,
+) -> Result<(), Refusal>
+    requires size { IsSize size }
+    requires aligned { at % size ≡ 0 }
+    requires place { P.place pages.old ≡ pieces.old.under }
+    ensures segments { IsStored result (segments_in pieces.old) (segments_in pieces.new) (stored size value (segments_in pieces.old) at) }
+    ensures image { pieces.new.image.now ≡ pieces.old.image.now }
+    ensures under { pieces.new.under ≡ pieces.old.under }
+    ensures stack { pieces.new.stack ≡ pieces.old.stack }
+    ensures place { P.place pages.new ≡ P.place pages.old }
+    ensures cells { P.cells pages.new ≡ P.cells pages.old }
+    ensures origin { P.origin pages.new ≡ P.origin pages.old }
+    ensures asked { P.asked pages.new ≡ option_map
+        (λ list. list ++ told_asked pieces.old.image.now pieces.old.under pieces.old.stack Store size at) (P.asked pages.old) }
+{
+    if at / REGION_BYTES == 1 {
+        return Err(Refusal::Fault);
+    }
+    match locate(pages, pieces.image, pieces.stack, at) {
+        Some(spot) => pieces.store(at, spot, size, value),
+        None => Err(Refusal::Fault),
     }
 }

@@ -3,7 +3,9 @@
 ghost use Rattle.ad_call.specs.Private.Stored.{IsPut};
 ghost use Rattle.ad_core.specs.Image.{fresh_stack};
 ghost use Rattle.ad_isa.specs.Words.{IsSize};
-ghost use Rattle.std.specs.Prelude.{◌≡◌, ◌≤◌, ◌+◌, length};
+ghost use Rattle.ad_base.specs.declared.layout.TheConstants.{PAGE_BYTES, STACK_PAGES};
+ghost use Rattle.ad_base.specs.Image.{zeros};
+ghost use Rattle.std.specs.Prelude.{◌≡◌, ◌≤◌, ◌+◌, ◌*◌, length};
 
 use crate::bytes::put_at;
 use crate::spot::Spot;
@@ -11,13 +13,10 @@ use ad_base::{Role, Sequence};
 use ad_core::Refusal;
 use std::marker::Model;
 
-/// The bytes of a stack.
-const STACK_BYTES: usize = 16_384;
-
 /// The stack, and the data of the immovable and of the movable part.
 #[derive(Drop)]
 pub struct CallBytes {
-    stack: [u8; STACK_BYTES],
+    stack: Vec<u8>,
     fixed: Vec<u8>,
     writable: Vec<u8>,
 }
@@ -27,24 +26,27 @@ impl Model for CallBytes {
 
     ghost Value = { Held };
 
-    ghost view = { λ b. record { stack = b.stack; fixed = b.fixed.items; writable = b.writable.items } };
+    ghost view = { λ b. record { stack = b.stack.items; fixed = b.fixed.items; writable = b.writable.items } };
 }
 
-/// The bytes of a fresh stack.
+/// Sets these bytes to zero.
 #[tactic(auto, unfolding(ad_base::specs::Image::zeros))]
-fn fresh_stack() -> [u8; STACK_BYTES]
-    ensures { result ≡ fresh_stack }
+fn clear(bytes: &mut [u8])
+    ensures { bytes.new ≡ zeros (length bytes.old) }
 {
-    [0; STACK_BYTES]
+    bytes.fill(0);
 }
 
 impl CallBytes {
-    /// A fresh stack beside these data.
-    pub fn fresh(fixed: Sequence<u8>, writable: Sequence<u8>) -> CallBytes
+    /// The bytes of a stack, all set to zero, beside these data.
+    pub fn fresh(stack: Vec<u8>, fixed: Sequence<u8>, writable: Sequence<u8>) -> CallBytes
+        requires { length stack.items ≡ STACK_PAGES * PAGE_BYTES }
         ensures { result ≡ record { stack = fresh_stack; fixed = fixed; writable = writable } }
     {
+        let mut stack = stack;
+        clear(stack.as_mut_slice());
         CallBytes {
-            stack: fresh_stack(),
+            stack,
             fixed: fixed.into_vec(),
             writable: writable.into_vec(),
         }
@@ -54,7 +56,7 @@ impl CallBytes {
     pub fn stack(&self) -> &[u8]
         ensures { result.now ≡ self.now.stack }
     {
-        &self.stack
+        self.stack.as_slice()
     }
 
     /// The data of the immovable part.
@@ -71,11 +73,17 @@ impl CallBytes {
         self.writable.as_slice()
     }
 
-    /// The data of the immovable and of the movable part again.
-    pub fn into_data(self) -> (Sequence<u8>, Sequence<u8>)
-        ensures { result ≡ (self.fixed, self.writable) }
+    /// The bytes of the stack, and the data of the immovable and of the movable part again.
+    pub fn into_parts(self) -> (Vec<u8>, Sequence<u8>, Sequence<u8>)
+        ensures stack { result.0.items ≡ self.stack }
+        ensures fixed { result.1 ≡ self.fixed }
+        ensures writable { result.2 ≡ self.writable }
     {
-        (Sequence::of(self.fixed), Sequence::of(self.writable))
+        (
+            self.stack,
+            Sequence::of(self.fixed),
+            Sequence::of(self.writable),
+        )
     }
 
     /// Puts so many low bytes of a value at a byte of a piece, if the piece may be stored to.
@@ -88,7 +96,7 @@ impl CallBytes {
         ensures { IsPut spot size value result self.old self.new }
     {
         match spot.role {
-            Role::Stack => put_at(&mut self.stack, spot.offset, size, value),
+            Role::Stack => put_at(self.stack.as_mut_slice(), spot.offset, size, value),
             Role::FixedData => put_at(self.fixed.as_mut_slice(), spot.offset, size, value),
             Role::Data => put_at(self.writable.as_mut_slice(), spot.offset, size, value),
             _ => return Err(Refusal::Denied),

@@ -1,20 +1,50 @@
 //! What is found at a byte of a piece of a module or a stack, and what is put there.
 
+ghost use Rattle.ad_base.specs.declared.layout.TheConstants.{LOCAL_WORDS, PAGE_BYTES, REGION_BYTES, STACK_PAGES};
+ghost use Rattle.ad_base.specs.Image.{movable_pages, IsWhole};
 ghost use Rattle.ad_base.specs.Layout.{local_word, page_of_words, size_of};
 ghost use Rattle.ad_base.specs.Place.{base_of};
+ghost use Rattle.ad_call.specs.Call.{HasData};
+ghost use Rattle.ad_call.specs.Private.Asks.{cell_asked};
+ghost use Rattle.ad_call.specs.Private.Spots.{bounds_of, spot_at, IsLow};
 ghost use Rattle.ad_call.specs.Private.Stored.{word_in};
-ghost use Rattle.ad_core.specs.Image.{bytes_under, local_area};
+ghost use Rattle.ad_call.specs.declared.asked.Asked.TheVariants.{Word};
+ghost use Rattle.ad_core.specs.Bus.{IsStored};
+ghost use Rattle.ad_core.specs.Image.{bytes_under};
+ghost use Rattle.ad_core.specs.Memory.{stored};
 ghost use Rattle.ad_isa.specs.Words.{IsSize};
 ghost use Rattle.byteorder.specs.Endian.{little_number};
-ghost use Rattle.std.specs.Prelude.{◌≡◌, ◌≤◌, ◌<◌, ◌+◌, ◌%◌, ◌^◌, drop, map, slice_index_or};
+ghost use Rattle.std.specs.Prelude.{◌≡◌, ◌≢◌, ◌≤◌, ◌<◌, ◌+◌, ◌*◌, ◌/◌, ◌%◌, ◌^◌, ◌++◌, ◌∷◌, [], Some, drop, length, map, option_map, slice_index_or};
 
-use crate::bus::ModuleBus;
 use crate::bytes::{bytes_of_word, number_at};
-use crate::spot::{Spot, text_bytes};
-use ad_base::{Cell, FETCH_BYTES, PAGE_BYTES, Role, WORD_BYTES, field_u32};
-use ad_core::Fetched;
+use crate::held::CallBytes;
+use crate::pages::Pages;
+use crate::spot::{Bounds, Spot, text_bytes};
+use ad_base::{FETCH_BYTES, Image, Place, Role, WORD_BYTES, field_u32};
+use ad_core::{Fetched, Refusal};
 
-impl ModuleBus<'_> {
+/// The pieces of a module and of a stack: where they lie, and what they hold.
+#[derive(Drop)]
+pub struct Pieces<'a> {
+    pub image: &'a Image,
+    /// Where the movable part lies.
+    pub under: Place,
+    /// Where the stack lies.
+    pub stack: Place,
+    pub bounds: Bounds,
+    /// What the stack and the data hold.
+    pub bytes: CallBytes,
+    ghost whole: { IsWhole image.now },
+    ghost sized: { under.pages ≡ movable_pages image.now },
+    ghost bounded: { bounds ≡ bounds_of image.now under stack },
+    ghost low: { IsLow bounds },
+    ghost fresh: { length bytes.stack ≡ STACK_PAGES * PAGE_BYTES },
+    ghost data: { HasData image.now bytes.writable bytes.fixed },
+}
+
+impl Pieces<'_> {
+    ghost use Rattle.ad_call.specs.Private.InPieces.{segments_in};
+
     /// The word that is fetched at a byte of a piece.
     #[inline(always)]
     pub fn word(&self, spot: Spot) -> Fetched
@@ -30,15 +60,22 @@ impl ModuleBus<'_> {
         }
     }
 
-    /// The number of so many bytes from a byte of a piece on.
+    /// The number of so many bytes from a byte of a piece on. A word of the local area is asked of the movable part's
+    /// pages.
     #[inline(always)]
-    pub fn number(&self, spot: Spot, size: u8) -> u64
+    pub fn number<P: Pages>(&self, pages: &mut P, spot: Spot, size: u8) -> u64
         requires size { IsSize size }
         requires aligned { spot.offset % size ≡ 0 }
         requires inside { spot.offset < size_of self.now.image.now spot.role }
+        requires place { P.place pages.old ≡ self.now.under }
+        requires cells { P.cells pages.old ≡ self.now.image.now.cells }
         ensures found { result ≡ little_number size (drop spot.offset (bytes_under self.now.image.now self.now.under
             self.now.bytes.stack self.now.bytes.fixed self.now.bytes.writable spot.role)) }
         ensures fits { result < 256 ^ size }
+        ensures place { P.place pages.new ≡ P.place pages.old }
+        ensures cells { P.cells pages.new ≡ P.cells pages.old }
+        ensures origin { P.origin pages.new ≡ P.origin pages.old }
+        ensures asked { P.asked pages.new ≡ option_map (λ list. list ++ cell_asked spot) (P.asked pages.old) }
     {
         let image = self.image;
         match spot.role {
@@ -55,7 +92,7 @@ impl ModuleBus<'_> {
                 let text = text_bytes(image.text_pages);
                 number_at(image.code.as_slice(), text + spot.offset, size)
             }
-            Role::Cells => self.local(spot.offset, size),
+            Role::Cells => local_number(pages, spot.offset, size),
             Role::Data => number_at(self.bytes.writable(), spot.offset, size),
         }
     }
@@ -72,18 +109,37 @@ impl ModuleBus<'_> {
         bytes_of_word(word, offset % WORD_BYTES, size)
     }
 
-    /// The number of so many bytes of the local area.
-    fn local(&self, offset: u64, size: u8) -> u64
+    /// Stores so many low bytes of a value at an address, which is this byte of a piece, if the piece may be stored to.
+    #[inline(always)]
+    pub fn store(&mut self, at: u64, spot: Spot, size: u8, value: u64) -> Result<(), Refusal>
         requires size { IsSize size }
-        requires aligned { offset % size ≡ 0 }
-        requires inside { offset < PAGE_BYTES }
-        ensures found { result ≡ little_number size (drop offset (local_area self.now.image.now (base_of self.now.under))) }
-        ensures fits { result < 256 ^ size }
+        requires aligned { at % size ≡ 0 }
+        requires spot { spot_at self.old.image.now self.old.under self.old.stack at ≡ Some spot }
+        requires behind { at / REGION_BYTES ≢ 1 }
+        ensures segments { IsStored result (segments_in self.old) (segments_in self.new) (stored size value (segments_in self.old) at) }
+        ensures image { self.new.image.now ≡ self.old.image.now }
+        ensures under { self.new.under ≡ self.old.under }
+        ensures stack { self.new.stack ≡ self.old.stack }
     {
-        let cells = self.image.cells.as_slice();
-        let word = local_word_at(cells, self.under.base(), offset / WORD_BYTES);
-        bytes_of_word(word, offset % WORD_BYTES, size)
+        self.bytes.put(spot, size, value)
     }
+}
+
+/// The number of so many bytes of the local area of a movable part.
+fn local_number<P: Pages>(pages: &mut P, offset: u64, size: u8) -> u64
+    requires size { IsSize size }
+    requires aligned { offset % size ≡ 0 }
+    requires inside { offset < PAGE_BYTES }
+    requires few { length (P.cells pages.old) ≤ LOCAL_WORDS }
+    ensures found { result ≡ little_number size (drop offset (page_of_words (map (local_word (base_of (P.place pages.old))) (P.cells pages.old)))) }
+    ensures fits { result < 256 ^ size }
+    ensures place { P.place pages.new ≡ P.place pages.old }
+    ensures cells { P.cells pages.new ≡ P.cells pages.old }
+    ensures origin { P.origin pages.new ≡ P.origin pages.old }
+    ensures asked { P.asked pages.new ≡ option_map (λ list. list ++ Word (offset / WORD_BYTES) ∷ []) (P.asked pages.old) }
+{
+    let word = pages.cell(offset / WORD_BYTES);
+    bytes_of_word(word, offset % WORD_BYTES, size)
 }
 
 /// The word at a place in these, or 0 behind the last.
@@ -92,26 +148,4 @@ fn word_at(words: &[u64], at: u64) -> u64
 {
     let at = at as usize;
     if at < words.len() { words[at] } else { 0 }
-}
-
-/// The word at a place in the local area of a movable part with this base, or 0 behind the last.
-fn local_word_at(cells: &[Cell], base: u64, at: u64) -> u64
-    ensures { result ≡ slice_index_or (map (local_word base) cells.now) at 0 }
-{
-    let at = at as usize;
-    if at < cells.len() {
-        local_word(base, cells[at])
-    } else {
-        0
-    }
-}
-
-/// A word of the local area of a movable part with this base.
-fn local_word(base: u64, cell: Cell) -> u64
-    ensures { result ≡ local_word base cell }
-{
-    match cell {
-        Cell::Off(offset) => base.wrapping_add(offset),
-        Cell::Num(number) => number,
-    }
 }

@@ -1,12 +1,13 @@
 //! Where an address lies among the pieces of a module and the stack.
 
-ghost use Rattle.std.specs.Prelude.{◌≡◌, ◌+◌, ◌*◌, ◌^◌, ◌<◌, [], ◌∷◌};
+ghost use Rattle.std.specs.Prelude.{◌≡◌, ◌+◌, ◌*◌, ◌^◌, ◌<◌, ◌++◌, [], ◌∷◌, option_map};
 ghost use Rattle.ad_base.specs.Image.{movable_pages, IsWhole};
 ghost use Rattle.ad_base.specs.Layout.{fixed_roles, movable_roles, size_of, text_bytes};
 ghost use Rattle.ad_base.specs.declared.role.Role.TheVariants.{Cells, Data};
-ghost use Rattle.ad_base.specs.Place.{base_of};
+ghost use Rattle.ad_call.specs.Private.Asks.{place_asked};
 ghost use Rattle.ad_call.specs.Private.Spots.{bounds_of, is_apart, spot_at, spot_in, IsLow};
 
+use crate::pages::Pages;
 use ad_base::{
     Image, LOCAL_PAGES, MODULE_REGION, PAGE_BYTES, Place, REGION_BYTES, Role, STACK_PAGES,
     STUB_PAGES, TABLE_PAGES,
@@ -78,10 +79,15 @@ fn is_apart(base: u64, bytes: u64, other: u64, more: u64) -> bool
     base + bytes <= other || other + more <= base
 }
 
-/// The byte at an address: of the stack, else of the immovable part, else of the movable one.
-pub fn locate(image: &Image, under: Place, stack: Place, at: u64) -> Option<Spot>
-    requires { IsWhole image.now }
-    ensures { result ≡ spot_at image.now under stack at }
+/// The byte at an address: of the stack, else of the immovable part, else of the movable one, as its pages say.
+pub fn locate<P: Pages>(pages: &mut P, image: &Image, stack: Place, at: u64) -> Option<Spot>
+    requires whole { IsWhole image.now }
+    requires sized { (P.place pages.old).pages ≡ movable_pages image.now }
+    ensures spot { result ≡ spot_at image.now (P.place pages.old) stack at }
+    ensures place { P.place pages.new ≡ P.place pages.old }
+    ensures cells { P.cells pages.new ≡ P.cells pages.old }
+    ensures origin { P.origin pages.new ≡ P.origin pages.old }
+    ensures asked { P.asked pages.new ≡ option_map (λ list. list ++ place_asked image.now stack at) (P.asked pages.old) }
 {
     let stack_base = stack.base();
     if at >= stack_base && at - stack_base < u64::from(STACK_PAGES) * PAGE_BYTES {
@@ -94,11 +100,8 @@ pub fn locate(image: &Image, under: Place, stack: Place, at: u64) -> Option<Spot
     if at >= fixed_base && at - fixed_base < u64::from(image.fixed.pages) * PAGE_BYTES {
         return fixed_spot(image, at - fixed_base);
     }
-    let base = under.base();
-    if at >= base && at - base < movable_bytes(image) {
-        return movable_spot(image, at - base);
-    }
-    None
+    let page = pages.page(at)?;
+    movable_spot(image, page * PAGE_BYTES + at % PAGE_BYTES)
 }
 
 /// The byte so far behind the first of the immovable part.
@@ -198,18 +201,4 @@ pub fn text_bytes(text_pages: u16) -> u64
     ensures { result ≡ text_bytes text_pages }
 {
     (u64::from(text_pages) + u64::from(STUB_PAGES)) * PAGE_BYTES
-}
-
-/// The bytes of an image's movable part.
-fn movable_bytes(image: &Image) -> u64
-    requires { IsWhole image.now }
-    ensures { result ≡ movable_pages image.now * PAGE_BYTES }
-{
-    let pages = u64::from(image.text_pages)
-        + u64::from(STUB_PAGES)
-        + u64::from(image.read_pages)
-        + u64::from(TABLE_PAGES)
-        + u64::from(LOCAL_PAGES)
-        + u64::from(image.data_pages);
-    pages * PAGE_BYTES
 }

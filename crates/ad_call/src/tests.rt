@@ -4,4 +4,5 @@
 mod accesses;
 mod ends;
 mod module;
+mod noted;
 mod services;

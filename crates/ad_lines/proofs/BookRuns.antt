@@ -3,7 +3,7 @@ use Rattle.std.proofs.Common.{◌≡◌, ◌≢◌, ℕ, ◌<◌, ◌≤◌, Boo
 use Rattle.std.specs.Prelude.{nat_eq, if◌then◌else◌}
 use Rattle.std.specs.List.{All, AllPairs}
 use Rattle.std.specs.List.Sorted.{IsNonDecreasingBy}
-use Rattle.std.specs.Option.{IfSome, IsSomeAnd, option_map}
+use Rattle.std.specs.Option.{IfSome, option_map}
 use Rattle.std.proofs.Math.ListN.{get_or-map, set}
 use Rattle.std.proofs.Math.Seq.{map-set_same}
 use Rattle.std.proofs.lemmas.Bool.Decides.{nat_tests}
@@ -29,7 +29,7 @@ use Rattle.ad_lines.specs.Ready.{IsRunnable}
 use Rattle.ad_lines.specs.Room.{images_of, is_call_of}
 use Rattle.ad_lines.proofs.Kept.{fold-keeps, keeps-step, read}
 use Rattle.ad_lines.proofs.Opens.{there}
-use Rattle.ad_lines.proofs.Elements.{all-back, all-front, all-read, pairs-head, pairs-tail, rises-cons, read-seam}
+use Rattle.ad_lines.proofs.Elements.{all-back, all-front, all-read, pairs-head, pairs-tail, rises-cons}
 use Rattle.ad_lines.proofs.StepCases.{call-is, call-keeps, call_at, called, fresh-keeps, move-keeps}
 
 -- one more turn behind the others
@@ -57,7 +57,8 @@ call-turn image fuel book c args export there =
 abbrev pub HasLawfulBook : ℕ → ModuleState → Type 0
 HasLawfulBook fuel m = IsLawful m.image fuel m.book
 
-lawful-call : (image : Image) (fuel : ℕ) (book : Contents) (c : calls.Call) (args : List ℕ) (export : Export) → slice_get image.exports c.export ≡ Some export → IsLawful image fuel book → IsLawful image fuel (after_call image fuel book c args)
+-- a call of an export that is there keeps a book lawful
+pub lawful-call : (image : Image) (fuel : ℕ) (book : Contents) (c : calls.Call) (args : List ℕ) (export : Export) → slice_get image.exports c.export ≡ Some export → IsLawful image fuel book → IsLawful image fuel (after_call image fuel book c args)
 unfolding after_call
 lawful-call image fuel book c args export there h =
     turns-push image fuel (opening_contents image) book.entries book (entry_of c args (outcome_of image fuel book c args)) (after_call image fuel book c args) h (call-turn image fuel book c args export there)

@@ -11,8 +11,10 @@ pub mod Opened
 pub mod OpenedApart
 pub mod MoveRuns
 pub mod OpenRuns
+pub mod OpeningSound
 pub mod Opens
 pub mod PlacedApart
+pub mod Replacing
 pub mod Resolved
 pub mod Rows
 pub mod StepCases

@@ -4,7 +4,7 @@ use Rattle.std.specs.List.{All, AllPairs, enumerate_from, filter, range_with_len
 use Rattle.std.specs.Option.{IsSomeAnd, MatchOption}
 use Rattle.std.proofs.lemmas.Bool.{cases_lt}
 use Rattle.std.proofs.lemmas.List.{length-map, map_push}
-use Rattle.std.proofs.lemmas.List.Elements.{All-cons, All-head, All-nil, All-same, All-tail}
+use Rattle.std.proofs.lemmas.List.Elements.{All-same}
 use Rattle.std.proofs.lemmas.List.FromFn.{length-enumerate_from, length-map-range_with_len}
 use Rattle.std.proofs.lemmas.Option.{slice_get_within}
 use Rattle.std.proofs.lemmas.Simd.{map-map}
@@ -15,17 +15,13 @@ use Rattle.ad_base.specs.declared.ledger.Kind.{Kind}
 use Rattle.ad_base.specs.declared.ledger.Kind.TheVariants.{Code, Fixed, Stack}
 use Rattle.ad_base.specs.declared.ledger.Row.{Row}
 use Rattle.ad_base.specs.declared.place.Place.{Place}
-use Rattle.ad_base.specs.Image.{IsWhole}
 use Rattle.ad_base.specs.Ledger.{Mapping, is_same_kind}
 use Rattle.ad_core.specs.Turn.{opening_contents}
 use Rattle.ad_place.specs.Choice.{Drawn, drawn_from}
 use Rattle.ad_place.specs.ChoiceLaws.{IsPlaceFor}
 use Rattle.ad_place.proofs.Requests.{each_is, length-drawn_from, regions_differ}
-use Rattle.ad_lines.specs.declared.line_run.ModuleRun.{ModuleRun}
-use Rattle.ad_lines.specs.LineRun.{ModuleState}
 use Rattle.ad_lines.specs.Opening.{AreLoaded, Request, drawn_for, opening_drawn, opening_mapping, opening_mappings, opening_module, opening_modules, opening_requests, places_of_kind, row_of, stack_request}
-use Rattle.ad_lines.specs.Room.{module_state}
-use Rattle.ad_lines.specs.Private.Places.{AreNumberedPlaces, IsMapped, IsMappingList, IsModuleRun, IsSound, thing_of, thing_row}
+use Rattle.ad_lines.specs.Private.Places.{AreNumberedPlaces, IsMappingList, thing_of, thing_row}
 use Rattle.ad_lines.proofs.Asked.{code_request, codes-asked, fits-requests, fixed-asked, fixed_request, length-requests, of_kind, stacks-asked}
 use Rattle.ad_lines.proofs.Elements.{all-read, all-reads, pairs-read}
 use Rattle.ad_lines.proofs.ListReads.{map-read, read-enumerate, read-map}
@@ -171,14 +167,6 @@ module _ (seed workers : ℕ) (images : List Image) (loaded : AreLoaded seed wor
   pub numbered : AreNumberedPlaces (opening_drawn seed workers images).places
   numbered k p e = (drawn-is k p e).2.mapping
 
-  -- and so all lie at places with the numbers of their rows
-  pub mapped : (count : ℕ) → length (opening_drawn seed workers images).places ≤ count → All (IsMapped count) (opening_drawn seed workers images).places
-  mapped count fits =
-      all-reads (IsMapped count) (opening_drawn seed workers images).places
-      (λ k p e.
-      let is = (drawn-is k p e).2 in
-      record { place = is.place; number = omega (arith, is.mapping, slice_get_within (opening_drawn seed workers images).places k p e, fits) })
-
   -- no two have one region
   pub regions-apart : AllPairs (λ (p q : Place). p.region ≢ q.region) (opening_drawn seed workers images).places
   unfolding opening_drawn
@@ -229,39 +217,6 @@ module _ (seed workers : ℕ) (images : List Image) (loaded : AreLoaded seed wor
       let within = slice_get_within (places_of_kind Stack (opening_mappings workers images (opening_drawn seed workers images).places)) n p e in
       drawn-for-kind Stack (opening_requests workers images) (opening_drawn seed workers images).places drawn-each n p (stack_request n) e
       (ap (λ rs. slice_get rs n) (stacks-asked workers images) ∙ read-map stack_request (range_with_len 0 workers) n n (read-counted workers n (omega (arith, within, stacks-count))))
-
--- a module of the opening
-record IsOpened (count : ℕ) (m : ModuleState) : Type 0 where
-  whole : IsWhole m.image
-  opens : m.book ≡ opening_contents m.image
-  mapped_at : IsMapped count m.movable
-
-opened : (count : ℕ) (images : List Image) (parts : List Place) → All IsWhole images → All (IsMapped count) parts → All (IsOpened count) (opening_modules images parts)
-opened count images parts whole at =
-    all-reads (IsOpened count) (opening_modules images parts)
-    (λ n m e.
-    let z = map-read opening_module (zip images parts) n m e in
-    let both = zip-read images parts n z.0 z.1 in
-    let is : IsOpened count (opening_module z.0) = record { whole = all-read IsWhole images n z.0.0 whole both.0; opens = refl; mapped_at = all-read (IsMapped count) parts n z.0.1 at both.1 } in
-    subst (IsOpened count) z.2 is)
-
-runs : (count : ℕ) (ms : List ModuleRun) → All (IsOpened count) (map module_state ms) → All (IsModuleRun count) ms
-runs count [] h = All-nil (IsModuleRun count)
-runs count (m ∷ ms) h =
-    let first = All-head (IsOpened count) (module_state m) (map module_state ms) h in
-    let is : IsModuleRun count m = record { whole = first.whole; lengths = record { movable = ap (λ b. length b.writable) first.opens; immovable = ap (λ b. length b.fixed) first.opens }; mapped = first.mapped_at } in
-    All-cons (IsModuleRun count) m ms is (runs count ms (All-tail (IsOpened count) (module_state m) (map module_state ms) h))
-
--- the opening is sound
-pub opening-sound : (count : ℕ) (requests : List Request) (images : List Image) (places : List Place) (ms : List ModuleRun) (stacks : List Place) → All IsWhole images → All (IsMapped count) places
-    → map module_state ms ≡ opening_modules images (places_of_kind Code (map opening_mapping (zip requests places)))
-    → stacks ≡ places_of_kind Stack (map opening_mapping (zip requests places)) → IsSound count ms stacks
-opening-sound count requests images places ms stacks whole at modules_are stacks_are =
-    let parts = places_of_kind Code (map opening_mapping (zip requests places)) in
-    record {
-      modules_are = runs count ms (All-same (IsOpened count) (map module_state ms) (opening_modules images parts) modules_are (opened count images parts whole (all-of-kind Code requests places (IsMapped count) at)));
-      stacks_are = All-same (IsMapped count) stacks (places_of_kind Stack (map opening_mapping (zip requests places))) stacks_are (all-of-kind Stack requests places (IsMapped count) at);
-    }
 
 -- a history more has room for the calls of its module
 pub rooms-push : (calls : ℕ → ℕ) (rooms : List ℕ) (room : ℕ) → ((m r : ℕ) → slice_get rooms m ≡ Some r → r ≡ calls m) → room ≡ calls (length rooms)

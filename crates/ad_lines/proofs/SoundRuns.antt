@@ -1,6 +1,6 @@
 -- What each step keeps of a run: its modules and stacks lie at the last places of their things, and data have the
 -- sizes of their images.
-use Rattle.std.proofs.Common.{◌≡◌, ℕ, ◌+◌, ◌*◌, ◌≤◌, ◌%◌, ◌^◌, List, [], slice_get, Some, inl, inr, sym, subst, ◌∙◌}
+use Rattle.std.proofs.Common.{◌≡◌, ℕ, ◌+◌, ◌*◌, ◌≤◌, ◌%◌, ◌^◌, List, slice_get, Some, inl, inr, sym, subst, ◌∙◌}
 use Rattle.std.specs.List.{All}
 use Rattle.ad_base.specs.declared.image.Image.{Image}
 use Rattle.ad_base.specs.declared.layout.TheConstants.{PAGE_BYTES, STACK_PAGES}

@@ -2,7 +2,6 @@
 
 ghost use Rattle.std.specs.Prelude.{◌≡◌, ℕ, ◌+◌, ◌-◌, ◌*◌, ◌<◌, ◌≤◌, ◌∷◌, [], List, fold, length, map, slice_get, slice_index, slice_set, sum_by, vec_len, All, IfOk, IfSome, Some};
 ghost use Rattle.ad_base.specs.Book.{contents_of};
-ghost use Rattle.ad_core.specs.Turn.{opening_contents};
 ghost use Rattle.ad_lines.specs.declared.ready.ReadyStep.{ReadyStep};
 ghost use Rattle.ad_lines.specs.LineRun.{after_step, line_run, with_call, with_fresh_stack, with_module_moved};
 ghost use Rattle.ad_lines.specs.Opening.{opening_drawn, opening_modules, opening_run, AreLoaded};
@@ -11,8 +10,9 @@ ghost use Rattle.ad_lines.specs.Room.{HasRoom, calls_of, images_of, module_state
 
 use crate::mappings::MappingList;
 use crate::ready::ReadyStep;
-use ad_base::{Args, Book, Device, History, Image, Kind, Moved, OutOfMemory, Place, Row, Sequence};
-use ad_call::{Call, run_call};
+use crate::room::{calls_of, moves_of, open_book};
+use ad_base::{Args, Book, Image, Kind, Moved, OutOfMemory, Place, Row};
+use ad_call::{Call, PlainMapping, StackBytes, run_call};
 use ad_place::Placer;
 use ad_script::SCRIPT_LINES;
 use std::alloc::Global;
@@ -46,6 +46,8 @@ pub struct LineRun {
     /// Where the stack of each worker lies.
     stacks: Vec<Place>,
     mappings: MappingList,
+    /// The bytes of the stack that each call runs on.
+    bytes: StackBytes,
     /// Steps that a call may make at most.
     fuel: u64,
 }
@@ -86,6 +88,7 @@ impl LineRun {
         ensures fuel { IfOk result (λ run. run.fuel ≡ fuel) }
         ensures room { IfOk result (HasRoom steps.now) }
     {
+        let bytes = StackBytes::new(alloc)?;
         let mappings = MappingList::open(alloc, placer, workers, &images, moves_of(steps))?;
         let stacks = mappings.places_of_kind(alloc, Kind::Stack)?;
         let parts = mappings.places_of_kind(alloc, Kind::Code)?;
@@ -94,6 +97,7 @@ impl LineRun {
             modules,
             stacks,
             mappings,
+            bytes,
             fuel,
         })
     }
@@ -163,7 +167,10 @@ impl LineRun {
             under: called.movable,
             stack,
         };
-        run_call(&called.image, &mut called.book, call, args, self.fuel);
+        let image = &called.image;
+        let pages = PlainMapping::new(called.movable, image.cells.as_slice());
+        let book = &mut called.book;
+        run_call(pages, &mut self.bytes, image, book, call, args, self.fuel);
     }
 
     /// Moves modules, in order.
@@ -245,36 +252,4 @@ fn books_of(alloc: Global, modules: Vec<ModuleRun>) -> Result<Vec<Book>, OutOfMe
         books.push(module.book)?;
     }
     Ok(books)
-}
-
-/// The book of an image before its first call, with room for so many.
-fn open_book(alloc: Global, image: &Image, room: u64) -> Result<Book, OutOfMemory>
-    ensures opening { IfOk result (λ book. contents_of book ≡ opening_contents image.now) }
-    ensures room { IfOk result (λ book. book.history.room ≡ room) }
-{
-    Ok(Book {
-        writable: Sequence::of(Vec::from_slice(alloc, image.writable.as_slice())?),
-        fixed: Sequence::of(Vec::from_slice(alloc, image.fixed_data.as_slice())?),
-        device: Device::new(),
-        history: History::with_room(alloc, room)?,
-    })
-}
-
-/// How many calls of a module these steps make.
-fn calls_of(number: u64, steps: &[ReadyStep]) -> u64
-    ensures { result ≡ sum_by (calls_of number) steps.now }
-{
-    steps.iter().filter(|step| step.is_call_of(number)).count() as u64
-}
-
-/// How many things these steps move.
-fn moves_of(steps: &[ReadyStep]) -> usize
-    requires { length steps.now ≤ SCRIPT_LINES }
-    ensures { result ≡ sum_by moves_of steps.now }
-{
-    let mut moves = 0;
-    for step in steps {
-        moves += step.moves();
-    }
-    moves
 }

@@ -6,7 +6,7 @@ ghost use Rattle.std.specs.Option.{option_map_or};
 ghost use Rattle.ad_base.specs.Ledger.{is_same_kind, made_place};
 ghost use Rattle.ad_base.specs.Place.{IsPlace};
 ghost use Rattle.ad_lines.specs.LineRun.{after_move, drawn_after, move_end, new_row, replaced, retired};
-ghost use Rattle.ad_lines.specs.Opening.{opening_mappings, opening_requests, row_of};
+ghost use Rattle.ad_lines.specs.Opening.{opening_mappings, opening_requests, places_of_kind, row_of};
 ghost use Rattle.ad_lines.specs.Private.Places.{AreNumbered, AreNumberedPlaces, IsMappingList, stack_thing, thing_of, thing_row};
 
 use ad_base::{Image, Kind, MAPPINGS, MoveEnd, Moved, OutOfMemory, Place, Row};
@@ -65,13 +65,7 @@ impl MappingList {
     pub fn places_of_kind(&self, alloc: Global, kind: Kind) -> Result<Vec<Place>, OutOfMemory>
         ensures { IfOk result (λ places. places.items ≡ map (λ r. r.place) (filter (λ r. is_same_kind kind r.kind) self.now.placement.rows)) }
     {
-        Ok(
-            self.rows
-                .iter()
-                .filter(|row| is_same_kind(kind, row.kind))
-                .map(|row| row.place)
-                .collect(alloc)?,
-        )
+        places_in(alloc, self.rows.as_slice(), kind)
     }
 
     /// What came of the moves, and a row for each mapping.
@@ -92,6 +86,7 @@ impl MappingList {
         ensures end { result ≡ move_end self.old.placement.drawn kind old.pages }
         ensures after { self.new.placement ≡ after_move self.old.placement line kind who old }
         ensures place { IfSome (made_place result) (λ p. IsPlace p) }
+        ensures pages { IfSome (made_place result) (λ p. p.pages ≡ old.pages) }
         ensures mapped { IfSome (made_place result) (λ p. p.mapping ≤ length self.new.placement.rows) }
         ensures grows { length self.old.placement.rows ≤ length self.new.placement.rows }
         ensures room { self.new.room + 1 ≡ self.old.room }
@@ -133,6 +128,35 @@ fn opening_things(alloc: Global, workers: u64, images: &[Image]) -> Result<Vec<T
         })?;
     }
     Ok(things)
+}
+
+/// The places of the mappings of a kind before the first line, of so many workers and of modules of these images, in order of
+/// number, where these were drawn. The one error is want of memory.
+pub fn opening_places(
+    alloc: Global,
+    workers: u64,
+    images: &[Image],
+    places: &[Place],
+    kind: Kind,
+) -> Result<Vec<Place>, OutOfMemory>
+    requires { length places.now ≤ MAPPINGS }
+    ensures { IfOk result (λ found. found.items ≡ places_of_kind kind (opening_mappings workers images.now places.now)) }
+{
+    let things = opening_things(alloc, workers, images)?;
+    let rows = opening_rows(alloc, &things, places)?;
+    places_in(alloc, &rows, kind)
+}
+
+/// The places of the rows of a kind, in order.
+fn places_in(alloc: Global, rows: &[Row], kind: Kind) -> Result<Vec<Place>, OutOfMemory>
+    ensures { IfOk result (λ places. places.items ≡ map (λ r. r.place) (filter (λ r. is_same_kind kind r.kind) rows.now)) }
+{
+    Ok(
+        rows.iter()
+            .filter(|row| is_same_kind(kind, row.kind))
+            .map(|row| row.place)
+            .collect(alloc)?,
+    )
 }
 
 /// The stacks of so many workers.
@@ -190,6 +214,7 @@ fn next_mapping(
         ≡ option_map_or (λ new. replaced rows.old.items line kind who old new) (made_place result) rows.old.items }
     ensures list { IsMappingList placer.new.places rows.new.items (vec_capacity rows.new) }
     ensures place { IfSome (made_place result) (λ p. IsPlace p) }
+    ensures pages { IfSome (made_place result) (λ p. p.pages ≡ old.pages) }
     ensures mapped { IfSome (made_place result) (λ p. p.mapping ≤ vec_len rows.new) }
     ensures grows { vec_len rows.old ≤ vec_len rows.new }
 {

@@ -4,10 +4,11 @@ use crate::Call;
 use crate::tests::module::{
     CELLS, CODE, CONSTANT, CONSTANTS, DATA, DATA_END, DATUM, FIXED, FIXED_CODE, FIXED_CONSTANT,
     FIXED_CONSTANTS, FIXED_DATA, FIXED_DATA_END, FIXED_DATUM, FIXED_STUB, FIXED_TABLE, NUMBER,
-    RETURN, STACK_BASE, STACK_END, STUB, TABLE, TABLE_WORD, UNDER, USUAL, called, called_twice,
-    end_of, word_at,
+    RETURN, STACK_BASE, STACK_END, STUB, TABLE, TABLE_WORD, UNDER, USUAL, asked, called,
+    called_twice, end_of, word_at,
 };
-use ad_base::{End, GATE};
+use crate::tests::noted::Question::{Page, Word};
+use ad_base::{End, GATE, Place};
 use std::test::Fail;
 
 /// Loads of a0 from 0(a0).
@@ -260,27 +261,31 @@ fn stores_below_the_stack_are_faults(rt: HostRuntime) -> Result<(), Fail> {
 
 #[test]
 fn the_stack_counts_before_the_immovable_part(rt: HostRuntime) -> Result<(), Fail> {
+    // A stack at the immovable part and at the movable one, and a movable part at the immovable one.
+    const ON_FIXED: Place = Place { pages: 4, ..FIXED };
+    const ON_UNDER: Place = Place { pages: 4, ..UNDER };
+    const UNDER_FIXED: Place = Place { pages: 6, ..FIXED };
     for (words, at, under, stack, want) in [
-        ([LD, RETURN], FIXED_CODE, UNDER, FIXED, End::Returned(0)),
-        ([LD, RETURN], FIXED_TABLE, UNDER, FIXED, End::Returned(0)),
+        ([LD, RETURN], FIXED_CODE, UNDER, ON_FIXED, End::Returned(0)),
+        ([LD, RETURN], FIXED_TABLE, UNDER, ON_FIXED, End::Returned(0)),
         (
             [LD, RETURN],
             FIXED_DATA,
             UNDER,
-            FIXED,
+            ON_FIXED,
             End::Returned(FIXED_DATUM),
         ),
         (
             [SD, RETURN],
             FIXED_CODE,
             UNDER,
-            FIXED,
+            ON_FIXED,
             End::Returned(FIXED_CODE),
         ),
-        ([JUMP, RETURN], FIXED_CODE, UNDER, FIXED, End::Denied),
-        ([LD, RETURN], CODE, UNDER, UNDER, End::Denied),
+        ([JUMP, RETURN], FIXED_CODE, UNDER, ON_FIXED, End::Denied),
+        ([LD, RETURN], CODE, UNDER, ON_UNDER, End::Denied),
         // The immovable part counts before the movable one, whose code isn't reached.
-        ([LD, RETURN], 0, FIXED, USUAL.stack, End::Returned(9)),
+        ([LD, RETURN], 0, UNDER_FIXED, USUAL.stack, End::Returned(9)),
     ] {
         let call = Call {
             under,
@@ -290,6 +295,38 @@ fn the_stack_counts_before_the_immovable_part(rt: HostRuntime) -> Result<(), Fai
         let book = called(rt.alloc(), &words, call, [at, VALUE, 0])?;
         assert_eq!(rt; end_of(&book), Some(want), "{words:?} at {at}");
         assert_eq!(rt; word_at(book.fixed.as_slice(), 0), FIXED_DATUM);
+    }
+    Ok(())
+}
+
+#[test]
+fn the_pages_are_asked_at_each_access_of_the_movable_part(rt: HostRuntime) -> Result<(), Fail> {
+    const FIRST: u64 = CODE;
+    const SECOND: u64 = CODE + 4;
+    let local_word = [Page(FIRST), Page(CELLS + 8), Word(1), Page(SECOND)];
+    let behind_the_words = [Page(FIRST), Page(CELLS + 4_088), Word(511), Page(SECOND)];
+    let datum = [Page(FIRST), Page(DATA), Page(SECOND)];
+    let elsewhere = [Page(FIRST), Page(SECOND)];
+    let missing = [Page(FIRST), Page(DATA_END)];
+    let region_1 = [Page(FIRST)];
+    for (word, at, want) in [
+        (LD, CELLS + 8, local_word.as_slice()),
+        (
+            LW,
+            CELLS + 12,
+            [Page(FIRST), Page(CELLS + 12), Word(1), Page(SECOND)].as_slice(),
+        ),
+        (LD, CELLS + 4_088, behind_the_words.as_slice()),
+        (LD, DATA, datum.as_slice()),
+        (SD, DATA, datum.as_slice()),
+        (LD, STACK_BASE, elsewhere.as_slice()),
+        (SD, STACK_BASE, elsewhere.as_slice()),
+        (LD, FIXED_DATA, elsewhere.as_slice()),
+        (SD, DATA_END, missing.as_slice()),
+        (LD, GATE, region_1.as_slice()),
+    ] {
+        let questions = asked(rt.alloc(), &[word, RETURN], [at, VALUE, 0])?;
+        assert_eq!(rt; questions.as_slice(), want, "{word} at {at}");
     }
     Ok(())
 }

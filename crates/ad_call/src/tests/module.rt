@@ -1,13 +1,15 @@
 //! A module that is made by hand, with something in each of its pieces.
 
-ghost use Rattle.std.specs.Prelude.{◌≡◌, ◌<◌, ◌+◌, IfOk, length};
-ghost use Rattle.ad_base.specs.Image.{IsWhole};
+ghost use Rattle.std.specs.Prelude.{◌≡◌, ◌==◌, ◌&&◌, ◌<◌, ◌+◌, nat_lt, IfOk, length};
+ghost use Rattle.ad_base.specs.declared.layout.TheConstants.{STACK_PAGES};
+ghost use Rattle.ad_base.specs.Image.{movable_pages, IsWhole};
 ghost use Rattle.ad_call.specs.Call.{HasData};
 
-use crate::{Call, run_call};
+use crate::tests::noted::{NotedPages, Question};
+use crate::{Call, Pages, PlainMapping, StackBytes, run_call};
 use ad_base::{
     Args, Book, Cell, Device, End, Export, History, Image, Name, OutOfMemory, PAGE_BYTES, Place,
-    Sequence, field_u64,
+    STACK_PAGES, Sequence, field_u64,
 };
 use std::alloc::Global;
 
@@ -145,6 +147,7 @@ fn cells(alloc: Global) -> Result<Sequence<Cell>, OutOfMemory>
 fn image(alloc: Global, words: &[u32]) -> Result<Image, OutOfMemory>
     ensures whole { IfOk result IsWhole }
     ensures exports { IfOk result (λ i. length i.exports ≡ 2) }
+    ensures pages { IfOk result (λ i. movable_pages i ≡ 6) }
     ensures writable { IfOk result (λ i. length i.writable ≡ PAGE_BYTES) }
     ensures fixed { IfOk result (λ i. length i.fixed_data ≡ PAGE_BYTES) }
 {
@@ -191,21 +194,47 @@ pub const USUAL: Call = Call {
     stack: STACK,
 };
 
-/// Makes a call with these arguments, of 4,000 steps at most.
-pub fn make(image: &Image, book: &mut Book, call: Call, args: [u64; 3])
+/// The words of three arguments.
+fn words_of(args: [u64; 3]) -> Args {
+    let mut words = Args::new();
+    words.push(args[0]);
+    words.push(args[1]);
+    words.push(args[2]);
+    words
+}
+
+/// Makes a call with these arguments, of 4,000 steps at most, if the places are of as many pages as the parts. It gives
+/// the pages back.
+pub fn make<P: Pages>(
+    pages: P,
+    bytes: &mut StackBytes,
+    image: &Image,
+    book: &mut Book,
+    call: Call,
+    args: [u64; 3],
+) -> P
     requires whole { IsWhole image.now }
     requires exports { length image.now.exports ≡ 2 }
     requires data { HasData image.now book.old.writable book.old.fixed }
     requires export { call.export < 2 }
     requires room { 0 < book.old.history.room }
+    requires under { P.place pages ≡ call.under }
+    requires under_pages { call.under.pages ≡ movable_pages image.now }
+    requires cells { P.cells pages ≡ image.now.cells }
+    requires stack { call.stack.pages ≡ STACK_PAGES }
     ensures data { HasData image.now book.new.writable book.new.fixed }
     ensures room { book.new.history.room + 1 ≡ book.old.history.room }
+    ensures place { P.place result ≡ P.place pages }
+    ensures cells { P.cells result ≡ P.cells pages }
 {
-    let mut words = Args::new();
-    words.push(args[0]);
-    words.push(args[1]);
-    words.push(args[2]);
-    run_call(image, book, call, &words, 4_000);
+    run_call(pages, bytes, image, book, call, &words_of(args), 4_000)
+}
+
+/// Tests whether a call may be made: of one of two exports, with places of as many pages as the parts.
+fn is_possible(call: Call) -> bool
+    ensures { result ≡ (nat_lt call.export 2 && (call.under.pages == 6) && (call.stack.pages == STACK_PAGES)) }
+{
+    call.export < 2 && call.under.pages == 6 && call.stack.pages == STACK_PAGES
 }
 
 /// The book of a module of these words once it was called with these arguments.
@@ -217,13 +246,15 @@ pub fn called(
 ) -> Result<Book, OutOfMemory> {
     let image = image(alloc, words)?;
     let mut book = book(alloc, 1)?;
-    if call.export < 2 {
-        make(&image, &mut book, call, args);
+    let mut bytes = StackBytes::new(alloc)?;
+    if is_possible(call) {
+        let pages = PlainMapping::new(call.under, image.cells.as_slice());
+        make(pages, &mut bytes, &image, &mut book, call, args);
     }
     Ok(book)
 }
 
-/// The same, of a module that was called before with other arguments.
+/// The same, of a module that was called before with other arguments, on the same stack.
 pub fn called_twice(
     alloc: Global,
     words: &[u32],
@@ -232,9 +263,24 @@ pub fn called_twice(
 ) -> Result<Book, OutOfMemory> {
     let image = image(alloc, words)?;
     let mut book = book(alloc, 2)?;
-    make(&image, &mut book, USUAL, before);
-    make(&image, &mut book, USUAL, args);
+    let mut bytes = StackBytes::new(alloc)?;
+    let pages = PlainMapping::new(UNDER, image.cells.as_slice());
+    let pages = make(pages, &mut bytes, &image, &mut book, USUAL, before);
+    make(pages, &mut bytes, &image, &mut book, USUAL, args);
     Ok(book)
+}
+
+/// What a call of a module of these words asked of the pages of its movable part.
+pub fn asked(alloc: Global, words: &[u32], args: [u64; 3]) -> Result<Vec<Question>, OutOfMemory> {
+    let image = image(alloc, words)?;
+    let mut book = book(alloc, 1)?;
+    let mut bytes = StackBytes::new(alloc)?;
+    let pages = NotedPages {
+        mapping: PlainMapping::new(UNDER, image.cells.as_slice()),
+        questions: Vec::with_capacity(alloc, 64)?,
+    };
+    let pages = make(pages, &mut bytes, &image, &mut book, USUAL, args);
+    Ok(pages.questions)
 }
 
 /// How the last call of a book ended.

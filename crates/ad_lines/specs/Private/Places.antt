@@ -1,9 +1,9 @@
 -- What holds of the places that the code keeps.
 use Rattle.std.specs.Prelude.{◌≡◌, ℕ, ◌+◌, ◌≤◌, List, length, slice_get, Some, All}
-use Rattle.ad_base.specs.declared.layout.TheConstants.{MAPPINGS}
+use Rattle.ad_base.specs.declared.layout.TheConstants.{MAPPINGS, STACK_PAGES}
 use Rattle.ad_base.specs.declared.ledger.Row.{Row}
 use Rattle.ad_base.specs.declared.place.Place.{Place}
-use Rattle.ad_base.specs.Image.{IsWhole}
+use Rattle.ad_base.specs.Image.{IsWhole, movable_pages}
 use Rattle.ad_base.specs.Place.{IsPlace}
 use Rattle.ad_call.specs.Call.{HasData}
 use Rattle.ad_lines.specs.declared.line_run.ModuleRun.{ModuleRun}
@@ -46,13 +46,19 @@ pub record IsMapped (count : ℕ) (p : Place) : Type 0 where
   pub place : IsPlace p
   pub number : p.mapping ≤ count
 
--- a module whose image is whole, whose data has the image's size, and which lies at a mapped place
+-- a module whose image is whole, whose data has the image's size, and which lies at a mapped place of as many pages
 pub record IsModuleRun (count : ℕ) (m : ModuleRun) : Type 0 where
   pub whole : IsWhole m.image
   pub lengths : HasData m.image m.book.writable m.book.fixed
   pub mapped : IsMapped count m.movable
+  pub pages : m.movable.pages ≡ movable_pages m.image
+
+-- a stack lies at a mapped place of its pages
+pub record IsStackRun (count : ℕ) (p : Place) : Type 0 where
+  pub mapped : IsMapped count p
+  pub pages : p.pages ≡ STACK_PAGES
 
 -- all modules and stacks are so
 pub record IsSound (count : ℕ) (modules : List ModuleRun) (stacks : List Place) : Type 0 where
   pub modules_are : All (IsModuleRun count) modules
-  pub stacks_are : All (IsMapped count) stacks
+  pub stacks_are : All (IsStackRun count) stacks

@@ -1,5 +1,5 @@
 use Rattle.std.proofs.Common.{◌≡◌, ◌∙◌, ap, sym, subst, List, [], length, map, arith}
-use Rattle.std.specs.List.{All, filter}
+use Rattle.std.specs.List.{filter}
 use Rattle.ad_base.specs.declared.image.Image.{Image}
 use Rattle.ad_base.specs.declared.ledger.Kind.{Kind}
 use Rattle.ad_base.specs.declared.ledger.Kind.TheVariants.{Code, Stack}
@@ -7,9 +7,10 @@ use Rattle.ad_base.specs.declared.ledger.Row.{Row}
 use Rattle.ad_base.specs.Ledger.{is_same_kind}
 use Rattle.ad_place.specs.Choice.{Drawn}
 use Rattle.ad_lines.specs.LineRun.{Placement}
-use Rattle.ad_lines.specs.Opening.{opening_mappings, opening_modules, opening_requests, opening_run, places_of_kind, row_of}
-use Rattle.ad_lines.specs.Private.Places.{AreNumberedPlaces, IsMapped}
-use Rattle.ad_lines.proofs.Opens.{drawn-each, kind-of-rows, length-rows, mapped, numbered, opening-sound, parts-count}
+use Rattle.ad_lines.specs.Opening.{opening_drawn, opening_mappings, opening_modules, opening_requests, opening_run, places_of_kind, row_of}
+use Rattle.ad_lines.specs.Private.Places.{AreNumberedPlaces}
+use Rattle.ad_lines.proofs.OpeningSound.{opening-sound}
+use Rattle.ad_lines.proofs.Opens.{drawn-each, kind-of-rows, length-rows, numbered, parts-count}
 use Rattle.ad_lines.proofs.line_run.LineRun.open.Goals as goal
 
 pub open-requires-clause-numbered : goal.open-requires-clause-numbered
@@ -40,15 +41,14 @@ invariant_of-result c =
     let workers = c.args.workers in
     let images = c.args.images.items in
     let places = c.args.placer.places in
-    let requests = opening_requests workers images in
+    let drawn = (opening_drawn seed workers images).places in
     let count = length c.in_ok-mappings.mappings.placement.rows in
-    let rows = ap (λ (p : Placement). p.rows) c.in_ok-mappings.ensures.placement ∙ ap (λ (is : List Image). map row_of (opening_mappings workers is places)) c.deref.ensures.value in
-    let found = λ (kind : Kind). ap (λ (rs : List Row). map (λ (r : Row). r.place) (filter (λ (r : Row). is_same_kind kind r.kind) rs)) rows ∙ kind-of-rows kind (opening_mappings workers images places) in
-    let same = ap (λ (d : Drawn). length d.places) c.requires.drawn in
-    let each = drawn-each seed workers images c.requires.loaded ∙ sym same in
-    let long : count ≡ length places = ap length rows ∙ length-rows requests places each in
-    let at : All (IsMapped count) places = subst (λ (d : Drawn). All (IsMapped count) d.places) (sym c.requires.drawn) (mapped seed workers images c.requires.loaded count (omega (arith, long, same))) in
-    opening-sound count requests images places c.in_ok-modules.modules.items c.in_ok-stacks.stacks.items c.requires.loaded.whole at
+    let rows = ap (λ (p : Placement). p.rows) c.in_ok-mappings.ensures.placement
+    ∙ ap (λ (is : List Image). map row_of (opening_mappings workers is places)) c.deref.ensures.value
+    ∙ ap (λ (d : Drawn). map row_of (opening_mappings workers images d.places)) c.requires.drawn in
+    let found = λ (kind : Kind). ap (λ (rs : List Row). map (λ (r : Row). r.place) (filter (λ (r : Row). is_same_kind kind r.kind) rs)) rows ∙ kind-of-rows kind (opening_mappings workers images drawn) in
+    let long : count ≡ length drawn = ap length rows ∙ length-rows (opening_requests workers images) drawn (drawn-each seed workers images c.requires.loaded) in
+    opening-sound seed workers images c.requires.loaded count (omega (arith, long)) c.in_ok-modules.modules.items c.in_ok-stacks.stacks.items
     (c.in_ok-modules.ensures.modules ∙ ap (opening_modules images) (c.deref-2.ensures.value ∙ c.in_ok-parts.ensures ∙ found Code))
     (c.in_ok-stacks.ensures ∙ found Stack)
 
