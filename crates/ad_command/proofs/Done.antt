@@ -1,5 +1,5 @@
 -- What a run of a script leaves, from the laws of line runs.
-use Rattle.std.proofs.Common.{◌≡◌, ℕ, zero, suc, Bool, true, false, cond, List, [], ◌∷◌, ◌++◌, Some, Ok, length, map, filter, slice_get, refl, sym, ap, subst, ◌∙◌, arith}
+use Rattle.std.proofs.Common.{◌≡◌, ℕ, zero, suc, Bool, true, false, cond, List, [], ◌∷◌, ◌++◌, Option, None, Some, Ok, length, map, filter, slice_get, refl, sym, ap, subst, ◌∙◌, arith}
 use Rattle.std.specs.List.{All, AllZip}
 use Rattle.std.proofs.lemmas.List.Elements.{All-head, All-same, All-tail}
 use Rattle.std.proofs.lemmas.Simd.{map-map}
@@ -20,7 +20,8 @@ use Rattle.ad_relate.specs.ClearHistory.{RepliesAsReplayed}
 use Rattle.ad_report.specs.Report.{AreMovesInOrder}
 use Rattle.ad_script.specs.Range.{IsInRange}
 use Rattle.ad_command.specs.Command.{Job}
-use Rattle.ad_command.specs.Ending.{Ending, IsLineRun, IsSoundRun, chosen_places, is_by, opening_of_job, run_of_job, unframed}
+use Rattle.ad_command.specs.Ending.{CanRun, Ending, IsDone, IsLineRun, IsSoundRun, chosen_places, is_by, opening_of_job, run_of_job, unframed}
+use Rattle.ad_command.specs.Private.Asked.{run_text, work_run}
 use Rattle.ad_command.proofs.Jobs.{are-steps}
 
 -- what holds of each module's image and book holds of the images and the books, side by side
@@ -113,3 +114,9 @@ is-run j o range loaded each viewed taken ready ran moved mapped =
       sound = is-sound j o loaded are line;
       rise = moves-in-order j o loaded are line;
     }
+
+-- the run of a job with its text is what is asked of the job
+pub run-is-done : (number : Option ℕ) (j : Job) (o : Ending) → CanRun j → IsLineRun j o → IsSoundRun (opening_of_job j) j o
+    → o.text ≡ run_text number j.script o.books o.moves o.rows → IsDone (work_run number j) o
+run-is-done None j o can line sound text = (can, line, sound, text)
+run-is-done (Some number) j o can line sound text = (can, line, sound, text)

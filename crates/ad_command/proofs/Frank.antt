@@ -8,6 +8,7 @@ use Rattle.ad_base.specs.declared.image.Image.{Image}
 use Rattle.ad_base.specs.declared.layout.TheConstants.{FILE_BYTES}
 use Rattle.ad_base.specs.declared.place.Place.{Place}
 use Rattle.ad_lines.specs.Ready.{ready_steps}
+use Rattle.ad_generator.specs.Script.{script_text}
 use Rattle.ad_link.specs.declared.reason.Reason.{Reason}
 use Rattle.ad_link.specs.declared.refusal.LinkRefusal.{LinkRefusal}
 use Rattle.ad_link.specs.Plan.{Planned}
@@ -21,10 +22,10 @@ use Rattle.std.specs.Option.{option_map_or}
 use Rattle.ad_command.specs.declared.trouble.Trouble.{Trouble}
 use Rattle.ad_command.specs.declared.trouble.Trouble.TheVariants.{Memory, Module, NoExport, Read, TooLarge, Usage}
 use Rattle.ad_command.specs.Chain.{Ask, Chain, Done, Judge, MayEnd, ModuleFile, Refuse, Verdict, ◌>>=◌, each_in_turn, given, judged}
-use Rattle.ad_command.specs.Command.{Lines, Predicted, Shown, command, job_in, job_of, shown_in, work_of}
-use Rattle.ad_command.specs.Loading.{file_of, fixed_behind, image_at, loaded_image, loaded_images, module_of, script_in}
+use Rattle.ad_command.specs.Command.{Generated, Lines, Predicted, Shown, command, job_built, job_from, job_in, job_of, shown_in, work_of}
+use Rattle.ad_command.specs.Loading.{built_of, file_of, fixed_behind, image_at, loaded_image, loaded_images, module_of, script_built, script_in}
 use Rattle.ad_command.specs.Trouble.{refused_module, refused_script}
-use Rattle.ad_words.specs.Words.{Command, Predict, Seq, Show, command_of}
+use Rattle.ad_words.specs.Words.{Command, Gen, Predict, Seq, Show, command_of}
 
 -- a fault that doesn't tell of reading a file
 pub record IsPlain (t : Trouble) : Type 0 where
@@ -80,36 +81,52 @@ frank-script : (last : Option (List ℕ)) (name : List ℕ) → IsFrank last (sc
 unfolding script_in
 frank-script last name = frank-behind last (file_of name) (λ text. judged refused_script (script_of text)) (frank-file last name) (λ at text. frank-judged at refused_script script-plain (script_of text))
 
+frank-built-script : (last : Option (List ℕ)) (number : ℕ) → IsFrank last (script_built number)
+unfolding script_built
+frank-built-script last number = frank-judged last refused_script script-plain (script_of (script_text number))
+
 frank-module : (last : Option (List ℕ)) (name : List ℕ) → IsFrank last (module_of name)
 unfolding module_of
 frank-module last name = frank-behind last (file_of name) (λ file. Judge (ModuleFile file) (judged (refused_module name))) (frank-file last name) (λ at file v. frank-judged at (refused_module name) (refused-plain name) v)
+
+frank-built : (last : Option (List ℕ)) (name : List ℕ) → IsFrank last (built_of name)
+unfolding built_of
+frank-built last name = λ v. frank-judged last (refused_module name) (refused-plain name) v
 
 frank-image : (last : Option (List ℕ)) (name : List ℕ) (p : Planned) (fixed : Place) → IsFrank last (image_at name p fixed)
 unfolding image_at
 frank-image last name p fixed = λ v. frank-judged last (refused_module name) (refused-plain name) v
 
-frank-load : (seed workers : ℕ) (last : Option (List ℕ)) (before : List Image) (l : Load) → IsFrank last (loaded_image module_of seed workers before l)
-unfolding loaded_image
-frank-load seed workers last before l =
-    frank-behind last (module_of l.file) (λ p. image_at l.file p (fixed_behind seed workers before p)) (frank-module last l.file) (λ at p. frank-image at l.file p (fixed_behind seed workers before p))
+-- where the module in the file of a name is had frankly, so are the images of loads, and the job
+module _ (had : List ℕ → Chain Planned) (frank : (last : Option (List ℕ)) (name : List ℕ) → IsFrank last (had name)) where
+  frank-load : (seed workers : ℕ) (last : Option (List ℕ)) (before : List Image) (l : Load) → IsFrank last (loaded_image had seed workers before l)
+  unfolding loaded_image
+  frank-load seed workers last before l =
+      frank-behind last (had l.file) (λ p. image_at l.file p (fixed_behind seed workers before p)) (frank last l.file) (λ at p. frank-image at l.file p (fixed_behind seed workers before p))
 
-frank-loads : (seed workers : ℕ) (last : Option (List ℕ)) (before : List Image) (ls : List Load) → IsFrank last (each_in_turn (loaded_image module_of seed workers) before ls)
-unfolding each_in_turn
-frank-loads seed workers last before [] = tt
-frank-loads seed workers last before (l ∷ ls) =
-    let f = loaded_image module_of seed workers in
-    frank-behind last (f before l) (λ y. each_in_turn f (before ++ y ∷ []) ls) (frank-load seed workers last before l) (λ at y. frank-loads seed workers at (before ++ y ∷ []) ls)
+  frank-loads : (seed workers : ℕ) (last : Option (List ℕ)) (before : List Image) (ls : List Load) → IsFrank last (each_in_turn (loaded_image had seed workers) before ls)
+  unfolding each_in_turn
+  frank-loads seed workers last before [] = tt
+  frank-loads seed workers last before (l ∷ ls) =
+      let f = loaded_image had seed workers in
+      frank-behind last (f before l) (λ y. each_in_turn f (before ++ y ∷ []) ls) (frank-load seed workers last before l) (λ at y. frank-loads seed workers at (before ++ y ∷ []) ls)
 
-frank-job : (script : Script) (seed fuel : ℕ) (last : Option (List ℕ)) → IsFrank last (job_of module_of script seed fuel)
-unfolding job_of loaded_images
-frank-job script seed fuel last =
-    frank-behind last (loaded_images module_of seed script) (λ images. judged NoExport (ready_steps images script.steps) >>= λ steps. Done (record { seed = seed; fuel = fuel; script = script; images = images; steps = steps }))
-    (frank-loads seed script.workers last [] script.loads)
-    (λ at images. frank-behind at (judged NoExport (ready_steps images script.steps)) (λ steps. Done (record { seed = seed; fuel = fuel; script = script; images = images; steps = steps })) (frank-judged at NoExport no-export (ready_steps images script.steps)) (λ x steps. tt))
+  frank-job : (script : Script) (seed fuel : ℕ) (last : Option (List ℕ)) → IsFrank last (job_of had script seed fuel)
+  unfolding job_of loaded_images
+  frank-job script seed fuel last =
+      frank-behind last (loaded_images had seed script) (λ images. judged NoExport (ready_steps images script.steps) >>= λ steps. Done (record { seed = seed; fuel = fuel; script = script; images = images; steps = steps }))
+      (frank-loads seed script.workers last [] script.loads)
+      (λ at images. frank-behind at (judged NoExport (ready_steps images script.steps)) (λ steps. Done (record { seed = seed; fuel = fuel; script = script; images = images; steps = steps })) (frank-judged at NoExport no-export (ready_steps images script.steps)) (λ x steps. tt))
+
+  frank-job-from : (script_had : Chain Script) (seed fuel : ℕ) (last : Option (List ℕ)) → IsFrank last script_had → IsFrank last (job_from script_had had seed fuel)
+  unfolding job_from
+  frank-job-from script_had seed fuel last script = frank-behind last script_had (λ s. job_of had s seed fuel) script (λ at s. frank-job s seed fuel at)
 
 frank-job-in : (name : List ℕ) (seed fuel : ℕ) (last : Option (List ℕ)) → IsFrank last (job_in name seed fuel)
-unfolding job_in
-frank-job-in name seed fuel last = frank-behind last (script_in name) (λ script. job_of module_of script seed fuel) (frank-script last name) (λ at script. frank-job script seed fuel at)
+frank-job-in name seed fuel last = frank-job-from module_of frank-module (script_in name) seed fuel last (frank-script last name)
+
+frank-job-built : (number seed fuel : ℕ) (last : Option (List ℕ)) → IsFrank last (job_built number seed fuel)
+frank-job-built number seed fuel last = frank-job-from built_of frank-built (script_built number) seed fuel last (frank-built-script last number)
 
 frank-shown : (name : List ℕ) (last : Option (List ℕ)) → IsFrank last (shown_in name)
 unfolding shown_in
@@ -119,6 +136,7 @@ frank-work : (last : Option (List ℕ)) (c : Command) → IsFrank last (work_of 
 frank-work last (Seq script seed fuel) = frank-behind last (job_in script seed fuel) (λ j. Done (Lines j)) (frank-job-in script seed fuel last) (λ at j. tt)
 frank-work last (Predict script seed fuel) = frank-behind last (job_in script seed fuel) (λ j. Done (Predicted j)) (frank-job-in script seed fuel last) (λ at j. tt)
 frank-work last (Show file) = frank-behind last (shown_in file) (λ i. Done (Shown i)) (frank-shown file last) (λ at i. tt)
+frank-work last (Gen number seed fuel) = frank-behind last (job_built number seed fuel) (λ j. Done (Generated number j)) (frank-job-built number seed fuel last) (λ at j. tt)
 
 frank-given : (last : Option (List ℕ)) (x : Option Command) → IsFrank last (given Usage x)
 frank-given last None = plain-frank Command last Usage usage

@@ -1,4 +1,5 @@
 pub mod Answering
+pub mod Built
 pub mod Chains
 pub mod Commands
 pub mod Complete

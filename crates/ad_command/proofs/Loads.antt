@@ -1,4 +1,4 @@
--- Serving the chains that read files: one file, the script, one module, and the modules in turn.
+-- Serving the chains that read files and those of what is built: one file, the script, one module, and the modules in turn.
 use Rattle.std.proofs.Common.{◌≡◌, ◌⊎◌, ℕ, ◌+◌, ◌<◌, ◌≤◌, List, [], ◌∷◌, ◌++◌, length, replicate, Option, None, Some, IfSome, IfOk, IfErr, Result, Ok, Err, inl, inr, refl, sym, ap, subst, ◌∙◌, arith, append-nil, add-one, suc, drop, drop-cons, get_or}
 use Rattle.std.specs.Prelude.{nat_lt, if◌then◌else◌}
 use Rattle.std.specs.Result.{IsErrAnd}
@@ -13,6 +13,8 @@ use Rattle.ad_base.specs.declared.ledger.Kind.TheVariants.{Code, Fixed}
 use Rattle.ad_base.specs.Count.{Rose}
 use Rattle.ad_base.specs.Outside.{Outside, Tells, Told}
 use Rattle.ad_base.specs.Image.{fixed_pages, movable_pages}
+use Rattle.ad_generator.specs.Generated.{built_named}
+use Rattle.ad_generator.specs.Script.{script_text}
 use Rattle.ad_link.specs.declared.refusal.LinkRefusal.{LinkRefusal}
 use Rattle.ad_link.specs.Plan.{IsPlan, IsRefused, IsRefusedAt, Planned}
 use Rattle.ad_link.specs.Plan as planned
@@ -30,7 +32,7 @@ use Rattle.ad_script.specs.Script.{script_of}
 use Rattle.ad_command.specs.declared.trouble.Trouble.{Trouble}
 use Rattle.ad_command.specs.declared.trouble.Trouble.TheVariants.{Memory, Read, TooLarge}
 use Rattle.ad_command.specs.Chain.{Chain, Done, Found, ImageAt, IsFound, IsWrong, Judge, MayEnd, ModuleFile, Question, Refuse, Serves, each_in_turn, judged}
-use Rattle.ad_command.specs.Loading.{file_of, fixed_behind, image_at, loaded_image, loaded_images, module_of, script_in}
+use Rattle.ad_command.specs.Loading.{built_of, file_of, fixed_behind, image_at, loaded_image, loaded_images, module_of, script_built, script_in}
 use Rattle.ad_command.specs.Command.{shown_at, shown_in}
 use Rattle.ad_command.specs.Trouble.{refused_module, refused_script}
 use Rattle.ad_command.proofs.Chains.{memory, serves-behind, serves-done, serves-memory, serves-judge, serves-refuse, serves-refused}
@@ -108,27 +110,41 @@ judged-so o q trouble (Ok v) ok err = found o q trouble v ok
 judged-so o q trouble (Err t) ok (inl bad) = rw (bad.2) (amiss o q trouble bad.0 bad.1)
 judged-so o q trouble (Err t) ok (inr wanting) = rw wanting (serves-memory o (Judge q (judged trouble)))
 
-module _ (old new : Outside) (name : List ℕ) where
-  script-next : List ℕ → Chain Script
-  script-next text = judged refused_script (script_of text)
+-- what the text of a script says
+script-next : List ℕ → Chain Script
+script-next text = judged refused_script (script_of text)
 
+-- the script of a text, or why it is refused
+script-said : (o : Outside) (text : List ℕ) (r : Result Script Trouble) → IfOk r (λ s. script_of text ≡ Ok s)
+    → IfErr r (λ t. ((w : ScriptRefusal) × (script_of text ≡ Err w) × (t ≡ refused_script w)) ⊎ (t ≡ Memory)) → Serves o o (script-next text) r
+unfolding script-next
+script-said o text (Ok s) ok err = rw ok (serves-done o s)
+script-said o text (Err t) ok (inl bad) = rw (bad.1, bad.2) (serves-refuse o (refused_script bad.0))
+script-said o text (Err t) ok (inr wanting) = rw wanting (serves-memory o (script-next text))
+
+-- the script that is built
+pub script-made : (o : Outside) (number : ℕ) (r : Result Script Trouble)
+    → IfOk r (λ s. script_of (script_text number) ≡ Ok s) → IfErr r (λ t. ((w : ScriptRefusal) × (script_of (script_text number) ≡ Err w) × (t ≡ refused_script w)) ⊎ (t ≡ Memory))
+    → Serves o o (script_built number) r
+unfolding script_built script-next
+script-made o number r ok err = script-said o (script_text number) r ok err
+
+-- a module that is built
+pub module-made : (o : Outside) (name : List ℕ) (r : Result Planned Trouble)
+    → IfOk r (IsPlan (built_named name)) → IfErr r (IsTold (ModuleFile (built_named name)) (refused_module name)) → Serves o o (built_of name) r
+unfolding built_of
+module-made o name r ok err = judged-so o (ModuleFile (built_named name)) (refused_module name) r ok err
+
+module _ (old new : Outside) (name : List ℕ) where
   pub script-unread : (t : Trouble) → Serves old new (file_of name) (Err t) → Serves old new (script_in name) (Err t)
   unfolding script_in script-next
   script-unread t first = serves-refused old new (file_of name) script-next t first
-
-  -- the script of a text, or why it is refused
-  script-said : (text : List ℕ) (r : Result Script Trouble) → IfOk r (λ s. script_of text ≡ Ok s)
-      → IfErr r (λ t. ((w : ScriptRefusal) × (script_of text ≡ Err w) × (t ≡ refused_script w)) ⊎ (t ≡ Memory)) → Serves new new (script-next text) r
-  unfolding script-next
-  script-said text (Ok s) ok err = rw ok (serves-done new s)
-  script-said text (Err t) ok (inl bad) = rw (bad.1, bad.2) (serves-refuse new (refused_script bad.0))
-  script-said text (Err t) ok (inr wanting) = rw wanting (serves-memory new (script-next text))
 
   pub script-read : (text : List ℕ) (r : Result Script Trouble) → Serves old new (file_of name) (Ok text)
       → IfOk r (λ s. script_of text ≡ Ok s) → IfErr r (λ t. ((w : ScriptRefusal) × (script_of text ≡ Err w) × (t ≡ refused_script w)) ⊎ (t ≡ Memory))
       → Serves old new (script_in name) r
   unfolding script_in script-next
-  script-read text r first ok err = serves-behind old new new (file_of name) script-next text r first (script-said text r ok err)
+  script-read text r first ok err = serves-behind old new new (file_of name) script-next text r first (script-said new text r ok err)
 
   module-next : List ℕ → Chain Planned
   module-next file = Judge (ModuleFile file) (judged (refused_module name))
@@ -151,17 +167,17 @@ module _ (name : List ℕ) (p : Planned) (fixed : Place) where
   unfolding image_at
   image-judged o r ok err = judged-so o (ImageAt p fixed) (refused_module name) r ok err
 
--- the image of a load
-module _ (seed workers : ℕ) (before : List Image) (l : Load) (old new : Outside) where
-  pub image-refused : (t : Trouble) → Serves old new (module_of l.file) (Err t) → Serves old new (loaded_image module_of seed workers before l) (Err t)
+-- the image of a load, where the module in the file of a name is had so
+module _ (had : List ℕ → Chain Planned) (seed workers : ℕ) (before : List Image) (l : Load) (old new : Outside) where
+  pub image-refused : (t : Trouble) → Serves old new (had l.file) (Err t) → Serves old new (loaded_image had seed workers before l) (Err t)
   unfolding loaded_image
-  image-refused t first = serves-refused old new (module_of l.file) (λ p. image_at l.file p (fixed_behind seed workers before p)) t first
+  image-refused t first = serves-refused old new (had l.file) (λ p. image_at l.file p (fixed_behind seed workers before p)) t first
 
-  pub image-made : (p : Planned) (r : Result Image Trouble) (fixed : Place) → fixed ≡ fixed_behind seed workers before p → Serves old new (module_of l.file) (Ok p)
-      → Serves new new (image_at l.file p fixed) r → Serves old new (loaded_image module_of seed workers before l) r
+  pub image-made : (p : Planned) (r : Result Image Trouble) (fixed : Place) → fixed ≡ fixed_behind seed workers before p → Serves old new (had l.file) (Ok p)
+      → Serves new new (image_at l.file p fixed) r → Serves old new (loaded_image had seed workers before l) r
   unfolding loaded_image
   image-made p r fixed same first second =
-      serves-behind old new new (module_of l.file) (λ q. image_at l.file q (fixed_behind seed workers before q)) p r first
+      serves-behind old new new (had l.file) (λ q. image_at l.file q (fixed_behind seed workers before q)) p r first
       (subst (λ at. Serves new new (image_at l.file p at) r) same second)
 
 -- the image of a module that is shown
@@ -218,15 +234,15 @@ module-loaded seed workers before z drawn fixed i at chosen whole offsets lies p
     let are : AreLoaded seed workers (before ++ i ∷ []) = loaded-push seed workers before i loaded few whole offsets there in
     (are, (λ j. with_next (with_next (at j) Fixed (size j)) Code (sym movable j)) ∙ sym (drawn-push seed workers before i))
 
--- the modules of a script, as far as they are loaded
-pub record IsLoading (seed : ℕ) (s : Script) (start now : Outside) (placer : Drawn) (images : List Image) (i : ℕ) : Type 0 where
-  pub goes : GoesOn (loaded_image module_of seed s.workers) start now images (drop i s.loads) s.loads
+-- the modules of a script that are had so, as far as they are loaded
+pub record IsLoading (had : List ℕ → Chain Planned) (seed : ℕ) (s : Script) (start now : Outside) (placer : Drawn) (images : List Image) (i : ℕ) : Type 0 where
+  pub goes : GoesOn (loaded_image had seed s.workers) start now images (drop i s.loads) s.loads
   pub drawn : placer ≡ opening_drawn seed s.workers images
   pub loaded : AreLoaded seed s.workers images
   pub count : length images ≡ i
   pub no_more : i ≤ length s.loads
 
-module _ (seed : ℕ) (s : Script) (start now : Outside) (placer : Drawn) (images : List Image) (i : ℕ) (is : IsLoading seed s start now placer images i) where
+module _ (had : List ℕ → Chain Planned) (seed : ℕ) (s : Script) (start now : Outside) (placer : Drawn) (images : List Image) (i : ℕ) (is : IsLoading had seed s start now placer images i) where
   pub loading-seed : placer.seed ≡ seed
   loading-seed = ap (λ (d : Drawn). d.seed) is.drawn ∙ seed-drawn seed s.workers images
 
@@ -245,37 +261,37 @@ module _ (seed : ℕ) (s : Script) (start now : Outside) (placer : Drawn) (image
     left : drop i s.loads ≡ l ∷ drop (i + 1) s.loads
     left = rw add-one (drop-cons s.loads i l within ∙ ap (λ x. x ∷ drop (suc i) s.loads) (sym at))
 
-    goes-on : GoesOn (loaded_image module_of seed s.workers) start now images (l ∷ drop (i + 1) s.loads) s.loads
-    goes-on = subst (λ ls. GoesOn (loaded_image module_of seed s.workers) start now images ls s.loads) left is.goes
+    goes-on : GoesOn (loaded_image had seed s.workers) start now images (l ∷ drop (i + 1) s.loads) s.loads
+    goes-on = subst (λ ls. GoesOn (loaded_image had seed s.workers) start now images ls s.loads) left is.goes
 
     pub loading-next : (new : Outside) (after : Drawn) (image : Image) → length s.loads ≤ MODULES
-        → ((workers : ℕ) (before : List Image) → placer ≡ opening_drawn placer.seed workers before → Serves now new (loaded_image module_of placer.seed workers before l) (Ok image))
+        → ((workers : ℕ) (before : List Image) → placer ≡ opening_drawn placer.seed workers before → Serves now new (loaded_image had placer.seed workers before l) (Ok image))
         → ((workers : ℕ) (before : List Image) → AreLoaded placer.seed workers before → length before < MODULES → placer ≡ opening_drawn placer.seed workers before
         → AreLoaded placer.seed workers (before ++ image ∷ []) × (after ≡ opening_drawn placer.seed workers (before ++ image ∷ [])))
-        → IsLoading seed s start new after (images ++ image ∷ []) (i + 1)
+        → IsLoading had seed s start new after (images ++ image ∷ []) (i + 1)
     loading-next new after image few serves loads =
         let so_far : AreLoaded placer.seed s.workers images = subst (λ n. AreLoaded n s.workers images) (sym loading-seed) is.loaded in
         let all = loads s.workers images so_far (omega (arith, is.count)) loading-drawn in
         record {
-          goes = goes-further (loaded_image module_of seed s.workers) start now images s.loads new l (drop (i + 1) s.loads) image goes-on (subst (λ n. Serves now new (loaded_image module_of n s.workers images l) (Ok image)) loading-seed (serves s.workers images loading-drawn));
+          goes = goes-further (loaded_image had seed s.workers) start now images s.loads new l (drop (i + 1) s.loads) image goes-on (subst (λ n. Serves now new (loaded_image had n s.workers images l) (Ok image)) loading-seed (serves s.workers images loading-drawn));
           drawn = subst (λ n. after ≡ opening_drawn n s.workers (images ++ image ∷ [])) loading-seed all.1;
           loaded = subst (λ n. AreLoaded n s.workers (images ++ image ∷ [])) loading-seed all.0;
           count = omega (arith, length_push images image, is.count);
           no_more = omega (arith, within);
         }
 
-    pub loading-wrong : (new : Outside) (t : Trouble) → ((workers : ℕ) (before : List Image) → placer ≡ opening_drawn placer.seed workers before → Serves now new (loaded_image module_of placer.seed workers before l) (Err t))
-        → Serves start new (loaded_images module_of seed s) (Err t)
+    pub loading-wrong : (new : Outside) (t : Trouble) → ((workers : ℕ) (before : List Image) → placer ≡ opening_drawn placer.seed workers before → Serves now new (loaded_image had placer.seed workers before l) (Err t))
+        → Serves start new (loaded_images had seed s) (Err t)
     unfolding loaded_images
-    loading-wrong new t serves = let step = serves s.workers images loading-drawn in goes-wrong (loaded_image module_of seed s.workers) start now images s.loads new l (drop (i + 1) s.loads) t goes-on (subst (λ n. Serves now new (loaded_image module_of n s.workers images l) (Err t)) loading-seed step)
+    loading-wrong new t serves = let step = serves s.workers images loading-drawn in goes-wrong (loaded_image had seed s.workers) start now images s.loads new l (drop (i + 1) s.loads) t goes-on (subst (λ n. Serves now new (loaded_image had n s.workers images l) (Err t)) loading-seed step)
 
-  pub loading-wanting : Serves start now (loaded_images module_of seed s) (Err Memory)
+  pub loading-wanting : Serves start now (loaded_images had seed s) (Err Memory)
   unfolding loaded_images
-  loading-wanting = goes-wanting (loaded_image module_of seed s.workers) start now images s.loads (drop i s.loads) is.goes
+  loading-wanting = goes-wanting (loaded_image had seed s.workers) start now images s.loads (drop i s.loads) is.goes
 
-  pub loading-done : length s.loads ≤ i → Serves start now (loaded_images module_of seed s) (Ok images)
+  pub loading-done : length s.loads ≤ i → Serves start now (loaded_images had seed s) (Ok images)
   unfolding loaded_images
-  loading-done end = goes-done (loaded_image module_of seed s.workers) start now images s.loads (subst (λ ls. GoesOn (loaded_image module_of seed s.workers) start now images ls s.loads) (drop_of_length-le s.loads end) is.goes)
+  loading-done end = goes-done (loaded_image had seed s.workers) start now images s.loads (subst (λ ls. GoesOn (loaded_image had seed s.workers) start now images ls s.loads) (drop_of_length-le s.loads end) is.goes)
 
-pub loading-from : (seed : ℕ) (s : Script) (start : Outside) (placer : Drawn) → 1 ≤ s.workers → s.workers ≤ WORKERS → placer ≡ opening_drawn seed s.workers [] → IsLoading seed s start start placer [] 0
-loading-from seed s start placer some few drawn = record { goes = goes-from (loaded_image module_of seed s.workers) start s.loads; drawn = drawn; loaded = loaded-none seed s.workers some few; count = refl; no_more = omega arith }
+pub loading-from : (had : List ℕ → Chain Planned) (seed : ℕ) (s : Script) (start : Outside) (placer : Drawn) → 1 ≤ s.workers → s.workers ≤ WORKERS → placer ≡ opening_drawn seed s.workers [] → IsLoading had seed s start start placer [] 0
+loading-from had seed s start placer some few drawn = record { goes = goes-from (loaded_image had seed s.workers) start s.loads; drawn = drawn; loaded = loaded-none seed s.workers some few; count = refl; no_more = omega arith }

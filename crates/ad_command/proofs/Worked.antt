@@ -8,7 +8,7 @@ use Rattle.ad_script.specs.Lines.{lines_of, without_return, words_of}
 use Rattle.ad_script.specs.Script.{after_line, after_lines, script_of, text_cause}
 use Rattle.ad_command.specs.declared.trouble.Trouble.TheVariants.{Script, Usage}
 use Rattle.ad_command.specs.Chain.{Gives}
-use Rattle.ad_command.specs.Command.{command, job_in}
+use Rattle.ad_command.specs.Command.{command, job_from}
 use Rattle.ad_command.specs.Loading.{file_of, script_in}
 
 pub no-task : (files : List ℕ → List ℕ) → Gives files (command (codes "none" ∷ codes "s" ∷ [])) [] (Err Usage)
@@ -23,11 +23,15 @@ pub an-option : (files : List ℕ → List ℕ) → Gives files (command (codes 
 unfolding command
 an-option files = (refl, refl)
 
+pub no-lines : (files : List ℕ → List ℕ) → Gives files (command (codes "gen" ∷ codes "0" ∷ [])) [] (Err Usage)
+unfolding command
+no-lines files = (refl, refl)
+
 -- no line begins with the word `x`
 x-is-refused : script_of (codes "x\n") ≡ Err (At 1 Word)
 unfolding script_of after_lines after_line lines_of without_return words_of text_cause form_of
 x-is-refused = refl
 
 pub a-refused-line : (files : List ℕ → List ℕ) → files (codes "s") ≡ codes "x\n" → Gives files (command (codes "seq" ∷ codes "s" ∷ [])) (codes "s" ∷ []) (Err (Script 1 Word))
-unfolding command job_in script_in file_of
+unfolding command job_from script_in file_of
 a-refused-line files e = ([], refl, rw (e, x-is-refused) (refl, refl))

@@ -23,10 +23,11 @@ use Rattle.ad_predict.specs.Prediction.{prediction}
 use Rattle.ad_relate.specs.ClearHistory.{RepliesAsReplayed}
 use Rattle.ad_report.specs.Listing.{listing}
 use Rattle.ad_report.specs.Report.{report}
+use Rattle.ad_report.specs.Summary.{summary}
 use Rattle.ad_command.specs.declared.top.Ended.{Ended}
 use Rattle.ad_command.specs.declared.trouble.Trouble.{Trouble}
 use Rattle.ad_command.specs.declared.trouble.Trouble.TheVariants.{Memory, Read, Write}
-use Rattle.ad_command.specs.Command.{Job, Lines, Predicted, Shown, Work}
+use Rattle.ad_command.specs.Command.{Generated, Job, Lines, Predicted, Shown, Work}
 
 -- what work comes to: what the books of the modules hold, what came of the moves, a row for each mapping, and the
 -- text that is to be written
@@ -87,6 +88,10 @@ pub record IsSoundRun (opening : List Mapping) (j : Job) (e : Ending) : Type 0 w
 abbrev pub IsReported : Job → Ending → Type 0
 IsReported j e = e.text ≡ report j.script e.books e.moves e.rows
 
+-- the text is the line that sums up the run of so many generated lines: of the books, of the moves and of the mappings
+abbrev pub IsSummed : ℕ → Ending → Type 0
+IsSummed number e = e.text ≡ summary number e.books e.moves e.rows
+
 -- the images of a job were loaded, and its steps may be run on them, in order of their lines
 pub record CanRun (j : Job) : Type 0 where
   pub loaded : AreLoaded j.seed j.script.workers j.images
@@ -99,11 +104,13 @@ pub record IsTextAlone (text : List ℕ) (e : Ending) : Type 0 where
   pub no_row : e.rows ≡ []
   pub text_is : e.text ≡ text
 
--- what work comes to: the run of a job's lines and its report, the prediction of its calls, or the listing of a whole image
+-- what work comes to: the run of a job's lines and its report, the prediction of its calls, the listing of a whole image, or the
+-- run of a job's lines and its sum
 abbrev pub IsDone : Work → Ending → Type 0
 IsDone (Lines j) e = CanRun j × IsLineRun j e × IsSoundRun (opening_of_job j) j e × IsReported j e
 IsDone (Predicted j) e = CanRun j × IsTextAlone (prediction j.script j.images j.fuel j.steps) e
 IsDone (Shown i) e = IsWhole i × IsTextAlone (listing i) e
+IsDone (Generated number j) e = CanRun j × IsLineRun j e × IsSoundRun (opening_of_job j) j e × IsSummed number e
 
 -- the fault of a chain's end
 abbrev pub fault_of : {A : Type 0} → Result A Trouble → Option Trouble

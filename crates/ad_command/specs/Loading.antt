@@ -4,6 +4,8 @@ use Rattle.ad_base.specs.declared.image.Image.{Image}
 use Rattle.ad_base.specs.declared.layout.TheConstants.{FILE_BYTES}
 use Rattle.ad_base.specs.declared.ledger.Kind.TheVariants.{Fixed}
 use Rattle.ad_base.specs.declared.place.Place.{Place}
+use Rattle.ad_generator.specs.Generated.{built_named}
+use Rattle.ad_generator.specs.Script.{script_text}
 use Rattle.ad_link.specs.declared.refusal.LinkRefusal.{LinkRefusal}
 use Rattle.ad_link.specs.Plan.{IsPlan, IsRefused, IsRefusedAt, Planned, fixed_pages}
 use Rattle.ad_lines.specs.Opening.{opening_drawn}
@@ -26,11 +28,19 @@ script_in name = do
   text ← file_of name
   judged refused_script (script_of text)
 
+-- the script of so many lines over the modules that are built
+unfoldable pub script_built : ℕ → Chain Script
+script_built number = judged refused_script (script_of (script_text number))
+
 -- what the link of the module in a file finds before the immovable part has a place
 unfoldable pub module_of : List ℕ → Chain Planned
 module_of name = do
   file ← file_of name
   Judge (ModuleFile file) (judged (refused_module name))
+
+-- the same of the built module in the file of a name
+unfoldable pub built_of : List ℕ → Chain Planned
+built_of name = Judge (ModuleFile (built_named name)) (judged (refused_module name))
 
 -- the image of a module from the file of a name, with its immovable part at a place
 unfoldable pub image_at : List ℕ → Planned → Place → Chain Image

@@ -2,6 +2,7 @@
 
 ghost use Rattle.std.specs.Prelude.{◌≡◌, ◌≤◌, ℕ, List, [], ◌∷◌, ◌++◌, length, map, codes, Result, Some, Ok, Err};
 ghost use Rattle.ad_base.specs.declared.image.Image.{Image};
+ghost use Rattle.ad_generator.specs.Generated.{built_named, generated_script};
 ghost use Rattle.ad_link.specs.declared.refusal.LinkRefusal.{LinkRefusal};
 ghost use Rattle.ad_link.specs.Plan.{IsPlan, Planned, fixed_pages};
 ghost use Rattle.ad_reloc.specs.Image.{IsImage};
@@ -12,13 +13,15 @@ ghost use Rattle.ad_script.specs.declared.script.Script.{Script};
 ghost use Rattle.ad_script.specs.declared.refusal.Cause.TheVariants.{Word};
 ghost use Rattle.ad_script.specs.Script.{script_of};
 ghost use Rattle.ad_command.specs.Chain.{Gives};
-ghost use Rattle.ad_command.specs.Command.{Lines, Predicted, Shown, Work, command, shown_at};
+ghost use Rattle.ad_command.specs.Command.{Generated, Lines, Predicted, Shown, Work, command, shown_at};
 ghost use Rattle.ad_command.specs.Loading.{AreLinked, IsRefusedLoad, loaded_images, module_of};
 ghost use Rattle.ad_command.specs.Trouble.{refused_module};
-ghost use Rattle.ad_words.specs.Words.{Predict, Seq, Show, command_of};
+ghost use Rattle.ad_words.specs.Words.{Gen, Predict, Seq, Show, command_of};
 
 use crate::trouble::Trouble;
 use ad_base::FILE_BYTES;
+use ad_generator::{law_files, law_images, law_plans, law_script};
+use ad_words::law_in_range;
 
 /// The chain of a script's loads ends at the first that a link refuses, before or after its immovable part has a place: the
 /// fault tells its file and the refusal, and no file behind it is asked for, whatever that holds.
@@ -29,10 +32,12 @@ pub fn law_first_refusal()
         → Gives files (loaded_images module_of seed s) (map (λ x. x.file) linked ++ l.file ∷ []) (Err (refused_module l.file r)) }
 {}
 
-/// Worked chains: words of no command, a command without an operand, an option, and a script of the line `x`.
+/// Worked chains: words of no command, a command without an operand, a script of no lines that would be built, an option, and a
+/// script of the line `x`.
 pub fn law_worked_chains()
     ensures task { (files : List ℕ → List ℕ) → Gives files (command (codes "none" ∷ codes "s" ∷ [])) [] (Err Trouble.Usage) }
     ensures operand { (files : List ℕ → List ℕ) → Gives files (command (codes "predict" ∷ [])) [] (Err Trouble.Usage) }
+    ensures lines { (files : List ℕ → List ℕ) → Gives files (command (codes "gen" ∷ codes "0" ∷ [])) [] (Err Trouble.Usage) }
     ensures option { (files : List ℕ → List ℕ) → Gives files (command (codes "seq" ∷ codes "-s" ∷ [])) [] (Err Trouble.Usage) }
     ensures script { (files : List ℕ → List ℕ) → files (codes "s") ≡ codes "x\n"
         → Gives files (command (codes "seq" ∷ codes "s" ∷ [])) (codes "s" ∷ []) (Err (Trouble.Script 1 Word)) }
@@ -54,7 +59,8 @@ pub fn law_some_answer()
 /// The chain of right words is done, where the script's file and the files of the modules that it loads aren't too long,
 /// no line of the script is refused, the modules are linked, and each call finds its export. It asks for these files, in order, and
 /// its work is to run the script's lines on those modules, with their parts at the places that the seed draws, or to predict
-/// its calls; or to list the one module that is shown.
+/// its calls; or to list the one module that is shown. Right words of `gen` are done whatever the files are, and ask for none: the
+/// work is to run the lines of the built script on the built modules.
 pub fn law_right_commands_are_done()
     ensures seq { (files : List ℕ → List ℕ) (words : List (List ℕ)) (operand : List ℕ) (seed fuel : ℕ) (s : Script) (images : List Image) (steps : List ReadyStep)
         → command_of words ≡ Some (Seq operand seed fuel) → length (files operand) ≤ FILE_BYTES → script_of (files operand) ≡ Ok s
@@ -70,4 +76,14 @@ pub fn law_right_commands_are_done()
         → command_of words ≡ Some (Show operand) → length (files operand) ≤ FILE_BYTES → IsPlan (files operand) p
         → IsImage p.object p.layout p.tables (shown_at (fixed_pages p.layout.sizes)) i
         → Gives files (command words) (operand ∷ []) (Ok (Shown i)) }
-{}
+    ensures built { (files : List ℕ → List ℕ) (words : List (List ℕ)) (number seed fuel : ℕ) → command_of words ≡ Some (Gen number seed fuel)
+        → (images : List Image) × (steps : List ReadyStep) × AreLinked built_named seed (generated_script number).workers [] (generated_script number).loads images
+        × (ready_steps images (generated_script number).steps ≡ Ok steps)
+        × Gives files (command words) [] (Ok (Generated number (record { seed = seed; fuel = fuel; script = generated_script number; images = images; steps = steps }))) }
+{
+    law_in_range();
+    law_files();
+    law_plans();
+    law_images();
+    law_script();
+}

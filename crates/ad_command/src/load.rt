@@ -1,8 +1,9 @@
-//! The files of a script, and the modules that it loads.
+//! The script of a command, and the modules that it loads: those of files, or those that are built.
 
 ghost use Rattle.std.specs.Prelude.{◌≡◌, ◌⊎◌, ◌+◌, ◌++◌, ◌<◌, ◌≤◌, List, ℕ, [], ◌∷◌, length, true, IfOk, IfErr, Ok, Err};
 ghost use Rattle.ad_base.specs.declared.image.Image.{Image};
 ghost use Rattle.ad_base.specs.Image.{IsWhole, movable_pages};
+ghost use Rattle.ad_base.specs.Outside.{Outside};
 ghost use Rattle.ad_base.specs.Place.{IsModulePlace};
 ghost use Rattle.ad_link.specs.declared.refusal.LinkRefusal.{LinkRefusal};
 ghost use Rattle.ad_link.specs.Plan.{IsPlan, IsRefused, IsRefusedAt, fixed_pages};
@@ -16,9 +17,10 @@ ghost use Rattle.ad_script.specs.Forms.{is_file_name};
 ghost use Rattle.ad_script.specs.Range.{IsInRange};
 ghost use Rattle.ad_script.specs.Script.{script_of};
 ghost use Rattle.ad_command.specs.Chain.{Serves};
+ghost use Rattle.ad_command.specs.Private.Asked.{IsThere, module_from, script_from, source_of};
 ghost use Rattle.ad_command.specs.Private.Seen.{seen};
 ghost use Rattle.ad_command.specs.Command.{shown_at, shown_in};
-ghost use Rattle.ad_command.specs.Loading.{file_of, image_at, loaded_image, loaded_images, module_of, script_in};
+ghost use Rattle.ad_command.specs.Loading.{built_of, file_of, image_at, loaded_image, loaded_images, module_of, script_built, script_in};
 ghost use Rattle.ad_command.specs.Trouble.{refused_module, refused_script};
 
 use crate::trouble::{Trouble, refused_module};
@@ -26,13 +28,72 @@ use ad_base::{
     Fetch, Files, Image, Kind, MAPPINGS, MODULE_REGION, MODULES, Name, OutOfMemory, Place,
     STACK_PAGES, WORKERS,
 };
+use ad_generator::{built_named, built_script};
 use ad_link::{LinkPlan, plan};
 use ad_place::Placer;
 use ad_script::{Load, Script, file_text, law_in_range, read_script};
+use ad_words::MOST_GENERATED;
 use std::alloc::Global;
 
+/// Where a script is had from.
+#[derive(Clone, Copy)]
+pub enum Origin<'a> {
+    /// It is in the file of this name.
+    File(&'a str),
+    /// It is built of so many lines.
+    Built(u64),
+}
+
+/// Where the modules that a script loads are had from.
+#[derive(Clone, Copy)]
+pub enum Source {
+    /// Each is in the file that its load names.
+    Files,
+    /// They are built.
+    Built,
+}
+
+impl Origin<'_> {
+    /// Where the modules of such a script are had from.
+    pub fn modules(self) -> Source
+        ensures { result ≡ source_of self.entry }
+    {
+        match self {
+            Origin::File(_) => Source::Files,
+            Origin::Built(_) => Source::Built,
+        }
+    }
+}
+
+/// The script of this origin.
+pub fn script_from<F: Files>(
+    alloc: Global,
+    files: &mut F,
+    origin: Origin<'_>,
+) -> Result<Script, Trouble>
+    requires { IsThere origin }
+    ensures serves { Serves (F.outside files.old) (F.outside files.new) (script_from origin.entry) result }
+    ensures range { IfOk result IsInRange }
+{
+    match origin {
+        Origin::File(name) => script_in(alloc, files, name),
+        Origin::Built(number) => script_built(alloc, number),
+    }
+}
+
+/// The script of so many lines over the modules that are built.
+fn script_built(alloc: Global, number: u64) -> Result<Script, Trouble>
+    requires some { 1 ≤ number }
+    requires few { number ≤ MOST_GENERATED }
+    ensures serves { (outside : Outside) → Serves outside outside (script_built number) result }
+    ensures range { IfOk result IsInRange }
+{
+    let text = built_script(alloc, number)?;
+    parse_script(alloc, &text)
+}
+
 /// The script in the file of this name.
-pub fn script_in<F: Files>(alloc: Global, files: &mut F, name: &str) -> Result<Script, Trouble>
+fn script_in<F: Files>(alloc: Global, files: &mut F, name: &str) -> Result<Script, Trouble>
     ensures serves { Serves (F.outside files.old) (F.outside files.new) (script_in name.now) result }
     ensures range { IfOk result IsInRange }
 {
@@ -47,15 +108,16 @@ pub struct Loaded {
     pub placer: Placer,
 }
 
-/// Loads the modules of a script, in order.
+/// Loads the modules of a script, in order, from this source.
 pub fn load_images<F: Files>(
     alloc: Global,
     files: &mut F,
+    source: Source,
     script: &Script,
     seed: u64,
 ) -> Result<Loaded, Trouble>
     requires { IsInRange script.now }
-    ensures serves { Serves (F.outside files.old) (F.outside files.new) (loaded_images module_of seed script.now)
+    ensures serves { Serves (F.outside files.old) (F.outside files.new) (loaded_images (module_from source) seed script.now)
         (seen (λ l. l.images.items) result) }
     ensures seed { IfOk result (λ l. l.placer.seed ≡ seed) }
     ensures drawn { IfOk result (λ l. l.placer ≡ opening_drawn seed script.now.workers l.images.items) }
@@ -65,7 +127,7 @@ pub fn load_images<F: Files>(
     let mut placer = draw_stacks(alloc, seed, script.workers)?;
     let mut images = Vec::new(alloc);
     for load in script.loads.as_slice() {
-        let image = load_image(alloc, files, &mut placer, load)?;
+        let image = load_image(alloc, files, source, &mut placer, load)?;
         images.push(image)?;
     }
     Ok(Loaded { images, placer })
@@ -113,19 +175,20 @@ fn draw_stacks(alloc: Global, seed: u64, workers: u64) -> Result<Placer, OutOfMe
 fn load_image<F: Files>(
     alloc: Global,
     files: &mut F,
+    source: Source,
     placer: &mut Placer,
     load: &Load,
 ) -> Result<Image, Trouble>
     requires name { is_file_name load.now.file ≡ true }
     requires room { length placer.old.places + 2 ≤ MAPPINGS }
     ensures serves { (workers : ℕ) (before : List Image) → placer.old ≡ opening_drawn placer.old.seed workers before
-        → Serves (F.outside files.old) (F.outside files.new) (loaded_image module_of placer.old.seed workers before load.now) result }
+        → Serves (F.outside files.old) (F.outside files.new) (loaded_image (module_from source) placer.old.seed workers before load.now) result }
     ensures loaded { IfOk result (λ i. (workers : ℕ) (before : List Image) → AreLoaded placer.old.seed workers before → length before < MODULES
         → placer.old ≡ opening_drawn placer.old.seed workers before
         → AreLoaded placer.old.seed workers (before ++ i ∷ []) × (placer.new ≡ opening_drawn placer.old.seed workers (before ++ i ∷ []))) }
 {
     let name = file_text(&load.file);
-    let plan = plan_of(alloc, files, name)?;
+    let plan = plan_from(alloc, files, source, name)?;
     let movable_pages = plan.movable_pages();
     let fixed = placer.next(Kind::Fixed, plan.fixed_pages());
     let image = image_at(alloc, name, plan, fixed)?;
@@ -154,6 +217,29 @@ fn shown_at(pages: u16) -> Place
         mapping: 1,
         frame: 0,
     }
+}
+
+/// What the link of the module in the file of this name finds, where that is from this source.
+fn plan_from<F: Files>(
+    alloc: Global,
+    files: &mut F,
+    source: Source,
+    name: &str,
+) -> Result<LinkPlan, Trouble>
+    ensures { Serves (F.outside files.old) (F.outside files.new) (module_from source name.now) result }
+{
+    match source {
+        Source::Files => plan_of(alloc, files, name),
+        Source::Built => plan_built(alloc, name),
+    }
+}
+
+/// What the link of the built file of this name finds before the immovable part has a place.
+fn plan_built(alloc: Global, name: &str) -> Result<LinkPlan, Trouble>
+    ensures { (outside : Outside) → Serves outside outside (built_of name.now) result }
+{
+    let file = built_named(alloc, name)?;
+    parse_module(alloc, &file, name)
 }
 
 /// What the link of the file of this name finds before the immovable part has a place.

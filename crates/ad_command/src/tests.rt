@@ -1,5 +1,6 @@
 //! The command over files and a sink in memory: worked examples of runs, and each refusal.
 
+mod built;
 mod linked;
 mod objects;
 mod scripts;
@@ -463,7 +464,7 @@ fn the_longest_script(rt: HostRuntime) -> Result<(), Fail> {
 #[test]
 fn words_of_no_grammar(rt: HostRuntime) -> Result<(), Fail> {
     let module = function(rt.alloc(), &SUM, b"sum")?;
-    let lists: [&[&str]; 13] = [
+    let lists: [&[&str]; 18] = [
         &[],
         &["seq"],
         &["predict"],
@@ -477,6 +478,11 @@ fn words_of_no_grammar(rt: HostRuntime) -> Result<(), Fail> {
         &["seq", "s", "--fuel", "0"],
         &["seq", "--seed=", "s"],
         &["show", "f", "--fuel", "1"],
+        &["gen"],
+        &["gen", "0"],
+        &["gen", "19001"],
+        &["gen", "s"],
+        &["gen", "8", "--slots", "4"],
     ];
     for words in lists {
         let given = Given {

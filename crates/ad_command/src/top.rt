@@ -4,24 +4,26 @@ ghost use Rattle.std.specs.Prelude.{◌≡◌, ◌≢◌, ◌⊎◌, ℕ, List, 
 ghost use Rattle.ad_base.specs.Book.{contents_of};
 ghost use Rattle.ad_base.specs.Count.{Rose};
 ghost use Rattle.ad_command.specs.Chain.{AreTold, Gives, Serves};
-ghost use Rattle.ad_command.specs.Command.{Job, Lines, Predicted, Work, command, job_in, work_of};
+ghost use Rattle.ad_command.specs.Command.{Job, Predicted, Work, command, job_from, work_of};
 ghost use Rattle.ad_command.specs.Ending.{Answers, AskedLast, AsksFirstOf, IsDone, Leaves, LeavesDone, Writes, fault_of};
+ghost use Rattle.ad_command.specs.Private.Asked.{IsThere, module_from, run_text, script_from, source_of, work_on, work_run};
 ghost use Rattle.ad_lines.specs.declared.ready.ReadyStep.{ReadyStep};
 ghost use Rattle.ad_lines.specs.LineLaws.{run_of_seed};
 ghost use Rattle.ad_lines.specs.Opening.{opening_drawn, AreLoaded};
 ghost use Rattle.ad_lines.specs.Ready.{ready_steps};
+ghost use Rattle.ad_report.specs.Report.{AreMovesInOrder};
 ghost use Rattle.ad_script.specs.Range.{IsInRange};
 ghost use Rattle.ad_command.specs.Trouble.{status_of};
 ghost use Rattle.ad_words.specs.Words.{Show};
 
-use crate::load::{Loaded, load_images, script_in, shown_image};
+use crate::load::{Loaded, Origin, load_images, script_from, shown_image};
 use crate::trouble::{Trouble, exit_status};
 use ad_base::{Book, Failed, Files, Image, Moved, OutOfMemory, Row, Sink, write_all};
 use ad_lines::{Finished, LineRun, Missing, ReadyStep, ready_steps};
 use ad_predict::predict;
-use ad_report::{listing, report};
+use ad_report::{listing, report, summary};
 use ad_script::Script;
-use ad_words::{Command, read_words};
+use ad_words::{Command, law_in_range, read_words};
 use std::alloc::Global;
 
 /// What came of a command.
@@ -137,51 +139,83 @@ fn written<K: Sink>(prepared: Prepared, out: &mut K) -> Ended
     }
 }
 
-/// Serves the chain of the command, does its job, and makes the report.
+/// What is done with a job.
+#[derive(Clone, Copy)]
+enum Purpose {
+    /// Its lines are run, and the run is reported.
+    Run,
+    /// Its calls are predicted.
+    Predict,
+    /// Its lines are run, and the run is summed up as that of so many generated lines.
+    Sum(u64),
+}
+
+/// Serves the chain of the command, does its work, and makes the text.
 fn prepare<F: Files>(alloc: Global, words: &[String], files: &mut F) -> Result<Prepared, Trouble>
     ensures { (end : Result Work Trouble) × Serves (F.outside files.old) (F.outside files.new) (command (map string_bytes words.now)) end
         × MatchResult result (λ p. (work : Work) × (end ≡ Ok work) × IsDone work (record { books = map contents_of p.books.items; moves = p.moves.items; rows = p.ledger.items; text = p.text.items })) (λ t. end ≡ Err t) }
 {
+    law_in_range();
     let Some(command) = read_words(words) else {
         return Err(Trouble::Usage);
     };
     match command {
-        Command::Seq { script, seed, fuel } => seq(alloc, files, script, seed, fuel),
-        Command::Predict { script, seed, fuel } => predicted(alloc, files, script, seed, fuel),
+        Command::Seq { script, seed, fuel } => {
+            let origin = Origin::File(script);
+            serve_job(alloc, files, origin, seed, fuel, Purpose::Run)
+        }
+        Command::Predict { script, seed, fuel } => {
+            let origin = Origin::File(script);
+            serve_job(alloc, files, origin, seed, fuel, Purpose::Predict)
+        }
         Command::Show { file } => shown(alloc, files, file),
+        Command::Gen { number, seed, fuel } => {
+            let origin = Origin::Built(number);
+            serve_job(alloc, files, origin, seed, fuel, Purpose::Sum(number))
+        }
     }
 }
 
-/// Serves the chain of a script that is run line by line, runs it, and makes the report.
-fn seq<F: Files>(
+/// Serves the chain of a job whose script is of this origin, and does what is asked of it.
+fn serve_job<F: Files>(
     alloc: Global,
     files: &mut F,
-    script: &str,
+    origin: Origin<'_>,
     seed: u64,
     fuel: u64,
+    purpose: Purpose,
 ) -> Result<Prepared, Trouble>
-    ensures { (end : Result Job Trouble) × Serves (F.outside files.old) (F.outside files.new) (job_in script.now seed fuel) end
-        × MatchResult result (λ p. (job : Job) × (end ≡ Ok job) × IsDone (Lines job) (record { books = map contents_of p.books.items; moves = p.moves.items; rows = p.ledger.items; text = p.text.items })) (λ t. end ≡ Err t) }
+    requires { IsThere origin }
+    ensures { (end : Result Job Trouble) × Serves (F.outside files.old) (F.outside files.new) (job_from (script_from origin.entry) (module_from (source_of origin.entry)) seed fuel) end
+        × MatchResult result (λ p. (job : Job) × (end ≡ Ok job) × IsDone (work_on purpose job) (record { books = map contents_of p.books.items; moves = p.moves.items; rows = p.ledger.items; text = p.text.items })) (λ t. end ≡ Err t) }
 {
-    let script = script_in(alloc, files, script)?;
-    let loaded = load_images(alloc, files, &script, seed)?;
-    run_job(alloc, &script, loaded, fuel)
+    let script = script_from(alloc, files, origin)?;
+    let loaded = load_images(alloc, files, origin.modules(), &script, seed)?;
+    do_job(alloc, &script, loaded, fuel, purpose)
 }
 
-/// Serves the chain of a script whose calls are predicted, and makes the prediction.
-fn predicted<F: Files>(
+/// Does what is asked of a script, if each call finds its export.
+fn do_job(
     alloc: Global,
-    files: &mut F,
-    script: &str,
-    seed: u64,
+    script: &Script,
+    loaded: Loaded,
     fuel: u64,
+    purpose: Purpose,
 ) -> Result<Prepared, Trouble>
-    ensures { (end : Result Job Trouble) × Serves (F.outside files.old) (F.outside files.new) (job_in script.now seed fuel) end
-        × MatchResult result (λ p. (job : Job) × (end ≡ Ok job) × IsDone (Predicted job) (record { books = map contents_of p.books.items; moves = p.moves.items; rows = p.ledger.items; text = p.text.items })) (λ t. end ≡ Err t) }
+    requires range { IsInRange script.now }
+    requires drawn { loaded.placer ≡ opening_drawn loaded.placer.seed script.now.workers loaded.images.items }
+    requires loaded { AreLoaded loaded.placer.seed script.now.workers loaded.images.items }
+    requires each { length script.now.loads ≡ length loaded.images.items }
+    ensures done { IfOk result (λ p. (steps : List ReadyStep) × (ready_steps loaded.images.items script.now.steps ≡ Ok steps)
+        × IsDone (work_on purpose (record { seed = loaded.placer.seed; fuel = fuel; script = script.now; images = loaded.images.items; steps = steps }))
+        (record { books = map contents_of p.books.items; moves = p.moves.items; rows = p.ledger.items; text = p.text.items })) }
+    ensures fault { IfErr result (λ t. ((line : ℕ) × (ready_steps loaded.images.items script.now.steps ≡ Err line) × (t ≡ Trouble.NoExport line)) ⊎ (t ≡ Trouble.Memory)) }
 {
-    let script = script_in(alloc, files, script)?;
-    let loaded = load_images(alloc, files, &script, seed)?;
-    predict_job(alloc, &script, &loaded, fuel)
+    match purpose {
+        Purpose::Run => run_job(alloc, script, loaded, fuel, None),
+        Purpose::Predict => predict_job(alloc, script, &loaded, fuel),
+        Purpose::Sum(number) => run_job(alloc, script, loaded, fuel, Some(number)),
+    }
 }
 
 /// Serves the chain of a file that is shown, and makes the listing.
@@ -229,32 +263,52 @@ fn predict_job(
     Ok(text_alone(alloc, text))
 }
 
-/// Runs the lines of a script, if each call finds its export, and makes the report.
-fn run_job(alloc: Global, script: &Script, loaded: Loaded, fuel: u64) -> Result<Prepared, Trouble>
+/// Runs the lines of a script, if each call finds its export, and makes the report; or the line that sums up the run of so
+/// many generated lines, where a number is given.
+fn run_job(
+    alloc: Global,
+    script: &Script,
+    loaded: Loaded,
+    fuel: u64,
+    number: Option<u64>,
+) -> Result<Prepared, Trouble>
     requires range { IsInRange script.now }
     requires drawn { loaded.placer ≡ opening_drawn loaded.placer.seed script.now.workers loaded.images.items }
     requires loaded { AreLoaded loaded.placer.seed script.now.workers loaded.images.items }
     requires each { length script.now.loads ≡ length loaded.images.items }
     ensures done { IfOk result (λ p. (steps : List ReadyStep) × (ready_steps loaded.images.items script.now.steps ≡ Ok steps)
-        × IsDone (Lines (record { seed = loaded.placer.seed; fuel = fuel; script = script.now; images = loaded.images.items; steps = steps }))
+        × IsDone (work_run number (record { seed = loaded.placer.seed; fuel = fuel; script = script.now; images = loaded.images.items; steps = steps }))
         (record { books = map contents_of p.books.items; moves = p.moves.items; rows = p.ledger.items; text = p.text.items })) }
     ensures fault { IfErr result (λ t. ((line : ℕ) × (ready_steps loaded.images.items script.now.steps ≡ Err line) × (t ≡ Trouble.NoExport line)) ⊎ (t ≡ Trouble.Memory)) }
 {
     let steps = ready(alloc, &loaded.images, script)?;
     let finished = run_lines(alloc, script, loaded, &steps, fuel)?;
-    let text = report(
-        alloc,
-        script,
-        &finished.books,
-        &finished.moves,
-        &finished.rows,
-    )?;
+    let text = run_text(alloc, script, &finished, number)?;
     Ok(Prepared {
         books: finished.books,
         moves: finished.moves,
         ledger: finished.rows,
         text,
     })
+}
+
+/// The text of a run: its report, or the line of the number that it is summed up for.
+fn run_text(
+    alloc: Global,
+    script: &Script,
+    finished: &Finished,
+    number: Option<u64>,
+) -> Result<Vec<u8>, OutOfMemory>
+    requires { AreMovesInOrder finished.now.moves.items }
+    ensures { IfOk result (λ text. text.items ≡ run_text number script.now (map contents_of finished.now.books.items) finished.now.moves.items finished.now.rows.items) }
+{
+    let books = finished.books.as_slice();
+    let moves = finished.moves.as_slice();
+    let rows = finished.rows.as_slice();
+    match number {
+        None => report(alloc, script, books, moves, rows),
+        Some(number) => summary(alloc, number, books, moves, rows),
+    }
 }
 
 /// The steps of a script, each ready to run on these modules.

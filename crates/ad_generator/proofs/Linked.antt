@@ -20,7 +20,7 @@ use Rattle.ad_parts.specs.Symbols.{export, has_name, home}
 use Rattle.ad_parts.specs.declared.layout.Layout.{Layout}
 use Rattle.ad_reloc.specs.Addresses.{field_address, field_offset, own_value, symbol_address, word_address}
 use Rattle.ad_reloc.specs.Highs.{high_of}
-use Rattle.ad_reloc.specs.Image.{IsImage}
+use Rattle.ad_reloc.specs.Image.{IsImage, image_of}
 use Rattle.ad_reloc.specs.Refusals.{are_pair, crosses, is_misaligned, is_out_of_range, leaves_pointer, plain_row, row_of, value_of, value_row}
 use Rattle.ad_reloc.specs.Refusals as reloc
 use Rattle.ad_reloc.specs.Table.{row, rows}
@@ -102,6 +102,11 @@ image_at p fixed none = elim (some_answer p.object p.layout p.tables fixed) [
   | inr refused ↦ absurd (some-none refused.0 (sym none ∙ refused.1))
 ]
 
+-- an image has the exports of its layout
+image_exports : (p : Planned) (fixed : Place) (i : Image) → IsImage p.object p.layout p.tables fixed i → i.exports ≡ p.layout.exports
+unfolding image_of
+image_exports p fixed i is = ap (λ (x : Image). x.exports) is.made
+
 has_images : (m : Module) → HasObject m → HasNoRow m → IsAppliedAnywhere m → HasImages m
 has_images m has fine applied =
     let plan = is_plan m has fine in
@@ -112,6 +117,7 @@ has_images m has fine applied =
     record {
       some = λ p fixed is. image_at p fixed (none p fixed is);
       not_refused = λ p fixed r is refused. none_at p fixed (none p fixed is) r refused;
+      exports = λ p fixed i is image. image_exports p fixed i image ∙ (is_planned m has fine).export p is;
     }
 
 pub each_image : All HasImages modules

@@ -6,6 +6,7 @@ use Rattle.std.proofs.lemmas.List.Elements.{All-from_recursion, All-nil}
 use Rattle.std.proofs.lemmas.Bool.{and_parts}
 use Rattle.std.proofs.lemmas.List.Kept.{AllPairs-cons}
 use Rattle.std.proofs.lemmas.List.Sums.{AllPass-from_list_all}
+use Rattle.ad_base.specs.declared.layout.TheConstants.{FILE_BYTES}
 use Rattle.ad_elf.specs.declared.elf.TheConstants.{NAME_BYTES, SHF_COMPRESSED, SHF_TLS, SHT_PROGBITS, ZERO_BYTES}
 use Rattle.ad_elf.specs.File.{has_flag}
 use Rattle.ad_elf.specs.Refusals.{IsObject}
@@ -241,19 +242,19 @@ service-fit : (name : List ℕ) → IsSymbolFit (service name)
 service-fit name = record { info = lit< tt; shndx = lit< tt; value = lit< tt; size = lit< tt }
 
 -- The files are short.
-abbrev IsSmall : Module → Type 0
-IsSmall m = length (file m) < 2 ^ 64
+abbrev pub IsSmall : Module → Type 0
+IsSmall m = length (file m) ≤ FILE_BYTES
 
-each_small : All IsSmall modules
+pub each_small : All IsSmall modules
 unfolding find_place header_of headers_behind headers_of names_of next object_file padded rela_header relas_bytes sections_bytes strings symbols_bytes symbols_header used
-each_small = each_module IsSmall (lit< tt) (lit< tt) (lit< tt) (lit< tt)
+each_small = each_module IsSmall (lit≤ tt) (lit≤ tt) (lit≤ tt) (lit≤ tt)
 
 fit-sum : IsModuleFit sum
 fit-sum = record {
   sections = All-from_recursion IsSectionFit sum.sections (record { typ = lit< tt; flags = lit< tt; size = lit< tt }, tt);
   relas = All-from_recursion AreRelasFit sum.sections (All-nil IsRelaFit, tt);
   symbols = All-from_recursion IsSymbolFit sum.symbols (exported-fit _ _ (lit< tt), tt);
-  file = each_small 0 sum (lit< tt);
+  file = omega (arith, each_small 0 sum (lit< tt));
 }
 
 fit-cnt : IsModuleFit cnt
@@ -262,7 +263,7 @@ fit-cnt = record {
   relas = All-from_recursion AreRelasFit cnt.sections
       (All-from_recursion IsRelaFit cnt_text.relas (rela-fit _ (lit< tt) (lit< tt) refl, (rela-fit _ (lit< tt) (lit< tt) refl, tt)), (All-nil IsRelaFit, tt));
   symbols = All-from_recursion IsSymbolFit cnt.symbols (object-fit _ _ (lit< tt), (label-fit _, (exported-fit _ _ (lit< tt), tt)));
-  file = each_small 1 sum (lit< tt);
+  file = omega (arith, each_small 1 sum (lit< tt));
 }
 
 fit-dev : IsModuleFit dev
@@ -271,7 +272,7 @@ fit-dev = record {
   relas = All-from_recursion AreRelasFit dev.sections
       (All-from_recursion IsRelaFit dev_text.relas (rela-fit _ (lit< tt) (lit< tt) refl, (rela-fit _ (lit< tt) (lit< tt) refl, tt)), tt);
   symbols = All-from_recursion IsSymbolFit dev.symbols (exported-fit _ _ (lit< tt), (service-fit _, (service-fit _, tt)));
-  file = each_small 2 sum (lit< tt);
+  file = omega (arith, each_small 2 sum (lit< tt));
 }
 
 fit-tab : IsModuleFit tab
@@ -282,7 +283,7 @@ fit-tab = record {
     (All-from_recursion IsRelaFit tab_addresses.relas (rela-fit _ (lit< tt) (lit< tt) refl, (rela-fit _ (lit< tt) (lit< tt) refl, tt)), tt),
   );
   symbols = All-from_recursion IsSymbolFit tab.symbols (object-fit _ _ (lit< tt), (label-fit _, (function-fit _ _ _ (lit< tt) (lit< tt), (function-fit _ _ _ (lit< tt) (lit< tt), (exported-fit _ _ (lit< tt), tt)))));
-  file = each_small 3 sum (lit< tt);
+  file = omega (arith, each_small 3 sum (lit< tt));
 }
 
 -- So the file of each module is that of its object.

@@ -6,6 +6,7 @@ use Rattle.ad_elf.specs.Worked.{sum_file}
 use Rattle.ad_isa.specs.Fields.{amount, funct3, funct6, funct7, i_immediate, opcode, rd, rs1, rs2, s_immediate, u_immediate}
 use Rattle.ad_isa.specs.Table.{decoded, rows}
 use Rattle.ad_kit.proofs.WorkedFile.{sum_is_written}
+use Rattle.ad_generator.specs.Generated.{generated_script, generated_step, worked_steps}
 use Rattle.ad_generator.specs.Instructions.{AreWordsOf, cnt_instructions, dev_instructions, sum_instructions, tab_instructions}
 use Rattle.ad_generator.specs.Modules.{built_file, cnt_words, dev_words, sum_words, tab_words}
 use Rattle.ad_generator.specs.Script.{line_text, script_text, worked_script}
@@ -33,3 +34,7 @@ built_file-sum = sum_is_written
 pub script_text-worked : script_text 8 ≡ worked_script
 unfolding digits joined line_text script_text
 script_text-worked = refl
+
+pub steps-worked : (generated_script 8).steps ≡ worked_steps
+unfolding generated_step joined
+steps-worked = refl

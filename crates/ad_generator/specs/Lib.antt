@@ -1,3 +1,4 @@
+pub mod Generated
 pub mod Instructions
 pub mod Linked
 pub mod Modules

@@ -18,7 +18,9 @@ pub record IsPlanned (m : Module) : Type 0 where
   pub not_refused : (r : LinkRefusal) → IsRefused (file m) r → ⊥
   pub export : (p : Planned) → IsPlan (file m) p → p.layout.exports ≡ export_of m ∷ []
 
--- With the immovable part at any place, the plan of its file has an image and isn't refused.
+-- With the immovable part at any place, the plan of its file has an image and isn't refused, and in each image the module's
+-- function is the one export.
 pub record HasImages (m : Module) : Type 0 where
   pub some : (p : Planned) (fixed : Place) → IsPlan (file m) p → (i : Image) × IsImage p.object p.layout p.tables fixed i
   pub not_refused : (p : Planned) (fixed : Place) (r : LinkRefusal) → IsPlan (file m) p → IsRefusedAt fixed p r → ⊥
+  pub exports : (p : Planned) (fixed : Place) (i : Image) → IsPlan (file m) p → IsImage p.object p.layout p.tables fixed i → i.exports ≡ export_of m ∷ []

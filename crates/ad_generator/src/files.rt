@@ -1,7 +1,9 @@
 //! The object files of the modules that are built.
 
 ghost use Rattle.std.specs.Prelude.{◌≡◌, ◌<◌, IfOk};
-ghost use Rattle.ad_generator.specs.Modules.{built_file};
+ghost use Rattle.ad_generator.specs.Generated.{built_named};
+ghost use Rattle.ad_generator.specs.Modules.{built_file, file};
+ghost use Rattle.ad_generator.specs.Private.Named.{module_of};
 
 use crate::names::{BUILT_MODULES, BuiltModule};
 use ad_base::OutOfMemory;
@@ -20,8 +22,27 @@ pub fn built(alloc: Global, number: u64) -> Result<Vec<u8>, OutOfMemory>
     requires { number < BUILT_MODULES }
     ensures { IfOk result (λ file. file.items ≡ built_file number) }
 {
-    let module = BuiltModule::of(number);
-    let sections = module.sections(alloc)?;
-    let symbols = module.symbols(alloc)?;
-    write_object(alloc, sections.as_slice(), symbols.as_slice())
+    BuiltModule::of(number).file(alloc)
+}
+
+/// The object file of this name, as `built` gives it: that of a module is named for the module, with `.o` at the end. A name of
+/// no such file gives no byte. The one error is want of memory.
+pub fn built_named(alloc: Global, name: &str) -> Result<Vec<u8>, OutOfMemory>
+    ensures { IfOk result (λ file. file.items ≡ built_named name.now) }
+{
+    match BuiltModule::in_file(name) {
+        Some(module) => module.file(alloc),
+        None => Ok(Vec::new(alloc)),
+    }
+}
+
+impl BuiltModule {
+    /// Its object file.
+    fn file(self, alloc: Global) -> Result<Vec<u8>, OutOfMemory>
+        ensures { IfOk result (λ v. v.items ≡ file (module_of self)) }
+    {
+        let sections = self.sections(alloc)?;
+        let symbols = self.symbols(alloc)?;
+        write_object(alloc, sections.as_slice(), symbols.as_slice())
+    }
 }

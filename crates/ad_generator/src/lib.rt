@@ -10,7 +10,9 @@ mod symbols;
 #[cfg(test)]
 mod tests;
 
-pub use files::built;
-pub use laws::{law_files, law_images, law_instructions, law_plans, law_worked_modules};
+pub use files::{built, built_named};
+pub use laws::{
+    law_files, law_images, law_instructions, law_plans, law_script, law_worked_modules,
+};
 pub use names::BUILT_MODULES;
-pub use script::{MOST_GENERATED, built_script};
+pub use script::built_script;

@@ -1,7 +1,8 @@
 //! The modules that are built, and what a script says of them.
 
-ghost use Rattle.std.specs.Prelude.{◌≡◌, ◌<◌, Some};
+ghost use Rattle.std.specs.Prelude.{◌≡◌, ◌<◌, Some, option_map};
 ghost use Rattle.std.specs.List.{slice_get};
+ghost use Rattle.ad_generator.specs.Generated.{module_in};
 ghost use Rattle.ad_generator.specs.Modules.{modules};
 ghost use Rattle.ad_generator.specs.Private.Named.{module_of};
 
@@ -33,6 +34,23 @@ impl BuiltModule {
             2 => BuiltModule::Device,
             3 => BuiltModule::Table,
             _ => unreachable!(),
+        }
+    }
+
+    /// The module whose file has this name.
+    pub fn in_file(name: &str) -> Option<BuiltModule>
+        ensures { option_map module_of result ≡ module_in name.now }
+    {
+        if "sum.o" == name {
+            Some(BuiltModule::Sum)
+        } else if "cnt.o" == name {
+            Some(BuiltModule::Counter)
+        } else if "dev.o" == name {
+            Some(BuiltModule::Device)
+        } else if "tab.o" == name {
+            Some(BuiltModule::Table)
+        } else {
+            None
         }
     }
 

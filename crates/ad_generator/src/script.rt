@@ -10,10 +10,8 @@ ghost use Rattle.ad_generator.specs.Private.Named.{module_of};
 
 use crate::names::{BUILT_MODULES, BuiltModule};
 use ad_base::OutOfMemory;
+use ad_words::MOST_GENERATED;
 use std::alloc::Global;
-
-/// How many lines may follow the loads, at most.
-pub const MOST_GENERATED: u64 = 19_000;
 
 /// How many workers the script has.
 pub(crate) const SCRIPT_WORKERS: u64 = 4;

@@ -1,6 +1,6 @@
 //! Tests of the files and of the script, against what is known of them.
 
-use crate::{BUILT_MODULES, built, built_script};
+use crate::{BUILT_MODULES, built, built_named, built_script};
 use std::test::Fail;
 
 /// The file of `sum`: the header of the file; the text, the symbols and the names; the section table.
@@ -124,6 +124,18 @@ fn the_words_of_the_other_texts(rt: HostRuntime) -> Result<(), Fail> {
             .get(TEXT_FROM..)
             .ok_or("bytes behind the header")?;
         assert!(rt; text.starts_with(expected.as_slice()), "{number}");
+    }
+    Ok(())
+}
+
+#[test]
+fn files_by_name(rt: HostRuntime) -> Result<(), Fail> {
+    for (number, name) in [(0, "sum.o"), (1, "cnt.o"), (2, "dev.o"), (3, "tab.o")] {
+        let named = built_named(rt.alloc(), name)?;
+        assert_eq!(rt; named.as_slice(), file(&rt, number)?.as_slice(), "{name}");
+    }
+    for name in ["", "sum", "cnt.", "sum.o ", "SUM.O", "s", "./sum.o"] {
+        assert!(rt; built_named(rt.alloc(), name)?.is_empty(), "{name}");
     }
     Ok(())
 }

@@ -1,19 +1,22 @@
 -- What the grammar says of numbers, of operands and of the two forms of an option.
-use Rattle.std.specs.Prelude.{◌≡◌, ◌≤◌, ◌<◌, ◌^◌, ℕ, List, [], ◌∷◌, ◌++◌, Some, codes}
-use Rattle.ad_words.specs.declared.command.TheConstants.{FUEL, MOST_FUEL, SEED}
-use Rattle.ad_words.specs.Words.{Command, Predict, Seq, Show, command_of}
+use Rattle.std.specs.Prelude.{◌≡◌, ◌≤◌, ◌<◌, ◌^◌, ℕ, List, [], ◌∷◌, ◌++◌, Some, codes, option_map}
+use Rattle.ad_words.specs.declared.command.TheConstants.{FUEL, MOST_FUEL, MOST_GENERATED, SEED}
+use Rattle.ad_words.specs.Words.{Command, Gen, Predict, Seq, Show, command_of, generated_numbers, number_taken}
 
--- the seed and the fuel of a command are in range
+-- the numbers of a command are in range
 abbrev pub IsInRange : Command → Type 0
 IsInRange (Seq script seed fuel) = (seed < 2 ^ 64) × (1 ≤ fuel) × (fuel ≤ MOST_FUEL)
 IsInRange (Predict script seed fuel) = (seed < 2 ^ 64) × (1 ≤ fuel) × (fuel ≤ MOST_FUEL)
 IsInRange (Show file) = Unit {0}
+IsInRange (Gen number seed fuel) = (1 ≤ number) × (number ≤ MOST_GENERATED) × (seed < 2 ^ 64) × (1 ≤ fuel) × (fuel ≤ MOST_FUEL)
 
--- behind `--` any word is an operand
+-- behind `--` any word is an operand, of `gen` where it says one of its numbers
 pub record TakesAnyOperand : Type 0 where
   pub seq : (word : List ℕ) → command_of (codes "seq" ∷ codes "--" ∷ word ∷ []) ≡ Some (Seq word SEED FUEL)
   pub predict : (word : List ℕ) → command_of (codes "predict" ∷ codes "--" ∷ word ∷ []) ≡ Some (Predict word SEED FUEL)
   pub show : (word : List ℕ) → command_of (codes "show" ∷ codes "--" ∷ word ∷ []) ≡ Some (Show word)
+  pub generated : (word : List ℕ) → command_of (codes "gen" ∷ codes "--" ∷ word ∷ [])
+      ≡ option_map (λ number. Gen number SEED FUEL) (number_taken generated_numbers word)
 
 -- `--seed N` says what `--seed=N` says, and `--fuel N` what `--fuel=N` says, whatever N and the task are
 pub record TakesBothForms : Type 0 where

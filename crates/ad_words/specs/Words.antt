@@ -4,46 +4,53 @@ use Rattle.std.specs.List.{after_first, before_first, list_all, list_any, starts
 use Rattle.std.specs.Prelude.{nat_eq}
 use Rattle.std.specs.Str.{all_ascii_digits}
 use Rattle.std.specs.Str.Parse.{digits_value}
-use Rattle.ad_words.specs.declared.command.TheConstants.{FUEL, MOST_FUEL, SEED}
+use Rattle.ad_words.specs.declared.command.TheConstants.{FUEL, MOST_FUEL, MOST_GENERATED, SEED}
 
 -- A command, by what is done:
 --     Seq script seed fuel          the lines of a script are run one after another, with places from a seed and so many steps of each call at most
 --     Predict script seed fuel      the symbolic machine says of each call of a script what comes of it, wherever the movable parts and the stacks lie
 --     Show file                     what the image of a module's file has is shown
+--     Gen number seed fuel          the script of so many lines over the modules that are built is run as one in a file is
 pub data Command : Type 0 where
   Seq : List ℕ → ℕ → ℕ → Command
   Predict : List ℕ → ℕ → ℕ → Command
   Show : List ℕ → Command
+  Gen : ℕ → ℕ → ℕ → Command
 
--- An option: its name, the tasks that it belongs to, the least and the most number that it takes, and the number where
--- it isn't given.
+-- The numbers that an operand or an option takes: from the least to the most.
+pub record Numbers : Type 0 where
+  pub least : ℕ
+  pub most : ℕ
+
+-- An option: its name, the tasks that it belongs to, the numbers that it takes, and the number where it isn't given.
 pub record OptionRow : Type 0 where
   pub name : List ℕ
   pub tasks : List (List ℕ)
-  pub least : ℕ
-  pub most : ℕ
+  pub numbers : Numbers
   pub default : ℕ
 
 abbrev pub seed_option : OptionRow
 seed_option = record {
   name = codes "seed";
-  tasks = codes "seq" ∷ codes "predict" ∷ [];
-  least = 0;
-  most = 2 ^ 64 - 1;
+  tasks = codes "seq" ∷ codes "predict" ∷ codes "gen" ∷ [];
+  numbers = record { least = 0; most = 2 ^ 64 - 1 };
   default = SEED;
 }
 
 abbrev pub fuel_option : OptionRow
 fuel_option = record {
   name = codes "fuel";
-  tasks = codes "seq" ∷ codes "predict" ∷ [];
-  least = 1;
-  most = MOST_FUEL;
+  tasks = codes "seq" ∷ codes "predict" ∷ codes "gen" ∷ [];
+  numbers = record { least = 1; most = MOST_FUEL };
   default = FUEL;
 }
 
 abbrev pub all_options : List OptionRow
 all_options = seed_option ∷ fuel_option ∷ []
+
+-- how many lines a script is generated of
+abbrev pub generated_numbers : Numbers
+generated_numbers = record { least = 1; most = MOST_GENERATED }
 
 -- What a word is where no `--` stands before it and it is no option's value:
 --     End                     `--`
@@ -121,17 +128,17 @@ only [] = None
 only (word ∷ []) = Some word
 only (first ∷ second ∷ more) = None
 
--- the number that decimal digits say, if it is one that the option takes
-abbrev pub number_taken : OptionRow → List ℕ → Option ℕ
-number_taken option word =
+-- the number that decimal digits say, if it is one of these
+abbrev pub number_taken : Numbers → List ℕ → Option ℕ
+number_taken numbers word =
     let number = digits_value 10 word in
-    if nat_lt 0 (length word) && all_ascii_digits word && nat_le option.least number && nat_le number option.most then Some number
+    if nat_lt 0 (length word) && all_ascii_digits word && nat_le numbers.least number && nat_le number numbers.most then Some number
     else None
 
 -- the number of an option that is given these values, at most one
 abbrev pub number_of : OptionRow → List (List ℕ) → Option ℕ
 number_of option [] = Some option.default
-number_of option (value ∷ []) = number_taken option value
+number_of option (value ∷ []) = number_taken option.numbers value
 number_of option (first ∷ second ∷ more) = None
 
 -- the command of a task, with its operand and its numbers
@@ -140,6 +147,7 @@ command_with task (Some operand) (Some seed) (Some fuel) =
     if bytes_eq task (codes "seq") then Some (Seq operand seed fuel)
     else if bytes_eq task (codes "predict") then Some (Predict operand seed fuel)
     else if bytes_eq task (codes "show") then Some (Show operand)
+    else if bytes_eq task (codes "gen") then option_map (λ number. Gen number seed fuel) (number_taken generated_numbers operand)
     else None
 command_with task operand seed fuel = None
 

@@ -9,6 +9,9 @@ pub const FUEL: u64 = 100_000;
 /// The most steps that the words may let a call make.
 pub const MOST_FUEL: u64 = 100_000_000;
 
+/// The most lines that a script is generated of.
+pub const MOST_GENERATED: u64 = 19_000;
+
 /// A command.
 #[derive(Clone, Copy, Debug, PartialEq, Eq)]
 pub enum Command<'a> {
@@ -34,5 +37,14 @@ pub enum Command<'a> {
     Show {
         /// The name of the module's file.
         file: &'a str,
+    },
+    /// Runs the lines of a script that is generated, over the modules that are built.
+    Gen {
+        /// How many lines call and move the modules.
+        number: u64,
+        /// The seed of the choice of places.
+        seed: u64,
+        /// Steps that a call may make at most.
+        fuel: u64,
     },
 }

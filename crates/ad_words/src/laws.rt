@@ -4,13 +4,14 @@ ghost use Rattle.std.specs.Prelude.{◌≡◌, ℕ, List, IfSome};
 ghost use Rattle.ad_words.specs.Laws.{IsInRange, TakesAnyOperand, TakesBothForms};
 ghost use Rattle.ad_words.specs.Words.{command_of};
 
-use crate::command::{FUEL, MOST_FUEL, SEED};
+use crate::command::{FUEL, MOST_FUEL, MOST_GENERATED, SEED};
 
-/// The numbers that a command takes where its words say none, and the most fuel.
+/// The numbers that a command takes where its words say none, the most fuel, and the most lines that are generated.
 pub fn law_defaults()
     ensures seed { SEED ≡ 0 }
     ensures fuel { FUEL ≡ 100000 }
     ensures most_fuel { MOST_FUEL ≡ 100000000 }
+    ensures most_generated { MOST_GENERATED ≡ 19000 }
 {}
 
 /// The numbers of a command are in range.
@@ -18,7 +19,7 @@ pub fn law_in_range()
     ensures { (words : List (List ℕ)) → IfSome (command_of words) IsInRange }
 {}
 
-/// Behind `--` any word is an operand.
+/// Behind `--` any word is an operand. That of `gen` is a number.
 pub fn law_any_operand()
     ensures { TakesAnyOperand }
 {}

@@ -11,6 +11,6 @@ mod task;
 mod tests;
 mod told;
 
-pub use command::{Command, FUEL, MOST_FUEL, SEED};
+pub use command::{Command, FUEL, MOST_FUEL, MOST_GENERATED, SEED};
 pub use laws::{law_any_operand, law_both_forms, law_defaults, law_in_range};
 pub use read::read_words;

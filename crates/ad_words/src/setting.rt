@@ -1,12 +1,12 @@
-//! The options, and their numbers.
+//! The options and the numbers of operands, each in its range.
 
 ghost use Rattle.std.specs.Prelude.{◌≡◌, ◌<◌, ◌^◌, ℕ, List, Option, None, IfSome, IfNone, length, option_copied, option_to_list, true, false};
 ghost use Rattle.std.specs.Str.{all_ascii_digits};
 ghost use Rattle.std.specs.Str.Parse.{digits_value};
-ghost use Rattle.ad_words.specs.Private.Seen.{row_of, task_word};
-ghost use Rattle.ad_words.specs.Words.{Given, is_of_task, number_of};
+ghost use Rattle.ad_words.specs.Private.Seen.{range_seen, row_of, task_word};
+ghost use Rattle.ad_words.specs.Words.{Given, generated_numbers, is_of_task, number_of, number_taken};
 
-use crate::command::{FUEL, MOST_FUEL, SEED};
+use crate::command::{FUEL, MOST_FUEL, MOST_GENERATED, SEED};
 use crate::task::Task;
 
 /// An option.
@@ -16,11 +16,17 @@ pub enum Setting {
     Fuel,
 }
 
-/// The numbers that an option takes, and the one where it isn't given.
+/// The numbers that an operand or an option takes.
 #[derive(Clone, Copy)]
-struct Numbers {
+struct Range {
     least: u64,
     most: u64,
+}
+
+/// The numbers that an option takes, and the one where it isn't given.
+#[derive(Clone, Copy)]
+struct Row {
+    numbers: Range,
     default: u64,
 }
 
@@ -39,7 +45,7 @@ pub fn setting_named(task: Task, name: &str) -> Option<Setting>
     };
     let belongs = match setting {
         Setting::Seed | Setting::Fuel => match task {
-            Task::Seq | Task::Predict => true,
+            Task::Seq | Task::Predict | Task::Gen => true,
             Task::Show => false,
         },
     };
@@ -50,35 +56,56 @@ pub fn setting_named(task: Task, name: &str) -> Option<Setting>
 pub fn number(setting: Setting, value: Option<&str>) -> Option<u64>
     ensures { result ≡ number_of (row_of setting) (option_to_list (option_copied value.entry)) }
 {
-    let numbers = numbers_of(setting);
-    let Some(text) = value else {
-        return Some(numbers.default);
+    let row = row_of(setting);
+    match value {
+        None => Some(row.default),
+        Some(text) => taken(row.numbers, text),
+    }
+}
+
+/// The number of lines that an operand says, if a script is generated of so many.
+pub fn generated(operand: &str) -> Option<u64>
+    ensures { result ≡ number_taken generated_numbers operand.now }
+{
+    let numbers = Range {
+        least: 1,
+        most: MOST_GENERATED,
     };
+    taken(numbers, operand)
+}
+
+/// The numbers of an option.
+fn row_of(setting: Setting) -> Row
+    ensures numbers { range_seen result.numbers ≡ (row_of setting).numbers }
+    ensures default { result.default ≡ (row_of setting).default }
+{
+    match setting {
+        Setting::Seed => Row {
+            numbers: Range {
+                least: 0,
+                most: u64::MAX,
+            },
+            default: SEED,
+        },
+        Setting::Fuel => Row {
+            numbers: Range {
+                least: 1,
+                most: MOST_FUEL,
+            },
+            default: FUEL,
+        },
+    }
+}
+
+/// The number that decimal digits say, if it is one of these.
+fn taken(numbers: Range, text: &str) -> Option<u64>
+    ensures { result ≡ number_taken (range_seen numbers) text.now }
+{
     let number = digits(text)?;
     if number < numbers.least || numbers.most < number {
         None
     } else {
         Some(number)
-    }
-}
-
-/// The numbers of an option.
-fn numbers_of(setting: Setting) -> Numbers
-    ensures least { result.least ≡ (row_of setting).least }
-    ensures most { result.most ≡ (row_of setting).most }
-    ensures default { result.default ≡ (row_of setting).default }
-{
-    match setting {
-        Setting::Seed => Numbers {
-            least: 0,
-            most: u64::MAX,
-            default: SEED,
-        },
-        Setting::Fuel => Numbers {
-            least: 1,
-            most: MOST_FUEL,
-            default: FUEL,
-        },
     }
 }
 

@@ -10,6 +10,7 @@ pub enum Task {
     Seq,
     Predict,
     Show,
+    Gen,
 }
 
 /// The task of this name.
@@ -24,6 +25,8 @@ pub fn task_named(word: &str) -> Option<Task>
         Some(Task::Predict)
     } else if word == "show" {
         Some(Task::Show)
+    } else if word == "gen" {
+        Some(Task::Gen)
     } else {
         None
     }

@@ -25,9 +25,13 @@ fn show(file: &str) -> Command<'_> {
     Command::Show { file }
 }
 
+fn generate(number: u64, seed: u64, fuel: u64) -> Command<'static> {
+    Command::Gen { number, seed, fuel }
+}
+
 #[test]
 fn words_of_the_grammar(rt: HostRuntime) -> Result<(), Fail> {
-    let cases: [(&[&str], Command<'_>); 34] = [
+    let cases: [(&[&str], Command<'_>); 53] = [
         // Tasks and operands.
         (&["seq", "s"], seq("s", 0, 100_000)),
         (&["predict", "s"], predict("s", 0, 100_000)),
@@ -81,6 +85,38 @@ fn words_of_the_grammar(rt: HostRuntime) -> Result<(), Fail> {
             &["predict", "--fuel=100000000", "s"],
             predict("s", 0, 100_000_000),
         ),
+        // A script of so many lines that is generated: the number is the operand.
+        (&["gen", "8"], generate(8, 0, 100_000)),
+        (&["gen", "1"], generate(1, 0, 100_000)),
+        (&["gen", "19000"], generate(19_000, 0, 100_000)),
+        (&["gen", "18999"], generate(18_999, 0, 100_000)),
+        (&["gen", "08"], generate(8, 0, 100_000)),
+        (
+            &["gen", "0000000000000000000000019000"],
+            generate(19_000, 0, 100_000),
+        ),
+        (&["gen", "--", "8"], generate(8, 0, 100_000)),
+        (&["gen", "8", "--"], generate(8, 0, 100_000)),
+        (&["gen", "--seed", "5", "--", "8"], generate(8, 5, 100_000)),
+        (&["gen", "--seed", "5", "8"], generate(8, 5, 100_000)),
+        (&["gen", "8", "--seed", "5"], generate(8, 5, 100_000)),
+        (&["gen", "--seed=5", "8"], generate(8, 5, 100_000)),
+        (
+            &["gen", "8", "--seed=18446744073709551615"],
+            generate(8, u64::MAX, 100_000),
+        ),
+        (&["gen", "--fuel", "1", "8"], generate(8, 0, 1)),
+        (
+            &["gen", "8", "--fuel=100000000"],
+            generate(8, 0, 100_000_000),
+        ),
+        (&["gen", "--fuel=7", "8", "--seed", "9"], generate(8, 9, 7)),
+        (
+            &["gen", "--seed", "9", "--fuel", "7", "8"],
+            generate(8, 9, 7),
+        ),
+        (&["seq", "gen"], seq("gen", 0, 100_000)),
+        (&["show", "8"], show("8")),
     ];
     for (words, command) in cases {
         let owned = owned(rt.alloc(), words)?;
@@ -91,7 +127,7 @@ fn words_of_the_grammar(rt: HostRuntime) -> Result<(), Fail> {
 
 #[test]
 fn words_of_no_grammar(rt: HostRuntime) -> Result<(), Fail> {
-    let cases: [&[&str]; 62] = [
+    let cases: [&[&str]; 103] = [
         // The task is missing, unknown or not the first word.
         &[],
         &[""],
@@ -161,6 +197,48 @@ fn words_of_no_grammar(rt: HostRuntime) -> Result<(), Fail> {
         &["seq", "--fuel=000", "s"],
         &["seq", "--fuel", "100000001", "s"],
         &["predict", "--fuel=18446744073709551617", "s"],
+        // The operand of `gen` is no number, or not one of those.
+        &["gen"],
+        &["gen", "--"],
+        &["gen", "0"],
+        &["gen", "000"],
+        &["gen", "19001"],
+        &["gen", "0019001"],
+        &["gen", "18446744073709551617"],
+        &["gen", ""],
+        &["gen", "-"],
+        &["gen", "-8"],
+        &["gen", "+8"],
+        &["gen", "0x8"],
+        &["gen", "8a"],
+        &["gen", " 8"],
+        &["gen", "8 "],
+        &["gen", "1_000"],
+        &["gen", "s"],
+        &["gen", "gen"],
+        &["gen", "--", "-8"],
+        &["gen", "--", "s"],
+        &["gen", "--", "0"],
+        &["gen", "--", "--"],
+        &["gen", "8", "8"],
+        &["gen", "8", "9"],
+        &["gen", "8", "--", "8"],
+        &["gen", "--", "8", "--seed=5"],
+        &["gen", "--seed", "8"],
+        &["gen", "--seed=5"],
+        &["gen", "8", "--seed"],
+        &["gen", "8", "--seed", "s"],
+        &["gen", "8", "--fuel=0"],
+        &["gen", "8", "--fuel", "100000001"],
+        &["gen", "8", "--seed=5", "--seed=5"],
+        &["gen", "8", "--slots", "4"],
+        &["gen", "--slots=4", "8"],
+        &["gen", "--frames", "8", "8"],
+        &["gen", "-x", "8"],
+        &["gen", "8", "--help"],
+        &["Gen", "8"],
+        &["gen8"],
+        &["8", "gen"],
     ];
     for words in cases {
         let owned = owned(rt.alloc(), words)?;

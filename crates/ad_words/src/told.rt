@@ -6,7 +6,7 @@ ghost use Rattle.ad_words.specs.Private.Seen.{command_seen, task_word};
 ghost use Rattle.ad_words.specs.Words.{Given, Operand, Said, command_said};
 
 use crate::command::Command;
-use crate::setting::{Setting, number, setting_named};
+use crate::setting::{Setting, generated, number, setting_named};
 use crate::task::Task;
 
 /// The operand and the values of the options, where they were read.
@@ -91,6 +91,11 @@ impl<'a> Told<'a> {
                 fuel,
             },
             Task::Show => Command::Show { file: operand },
+            Task::Gen => Command::Gen {
+                number: generated(operand)?,
+                seed,
+                fuel,
+            },
         })
     }
 }

@@ -1,8 +1,9 @@
-use Rattle.std.proofs.Common.{map, string_bytes, Some, Err, refl, ap, sym, ◌∙◌}
+use Rattle.std.proofs.Common.{map, string_bytes, IfSome, Some, Err, refl, ap, subst, sym, ◌∙◌}
 use Rattle.ad_base.specs.Book.{contents_of}
-use Rattle.ad_command.specs.Command.{Lines, Predicted}
+use Rattle.ad_command.specs.Command.{Generated, Lines, Predicted, job_built, job_in}
 use Rattle.ad_words.specs.Private.Seen.{command_seen}
-use Rattle.ad_words.specs.Words.{Predict, Seq, Show}
+use Rattle.ad_words.specs.Laws.{IsInRange}
+use Rattle.ad_words.specs.Words.{Gen, Predict, Seq, Show}
 use Rattle.ad_command.specs.declared.top.Prepared.{Prepared}
 use Rattle.ad_command.specs.declared.trouble.Trouble.TheVariants.{Usage}
 use Rattle.ad_command.proofs.Commands.{command-none, command-some, work-ran}
@@ -15,18 +16,18 @@ pub returns-in-Seq : goal.returns-in-Seq
 returns-in-Seq g c =
     let k = c.in-Seq in
     let old = g.F.Files.outside c.args.files.now in
-    let new = g.F.Files.outside c.seq.new.files in
-    let ran = c.seq.ensures in
-    let last = work-ran Lines (λ (p : Prepared). record { books = map contents_of p.books.items; moves = p.moves.items; rows = p.ledger.items; text = p.text.items }) old new k.script.now k.seed k.fuel c.seq.result ran.0 ran.1 ran.2 in
+    let new = g.F.Files.outside c.serve_job.new.files in
+    let ran = c.serve_job.ensures in
+    let last = work-ran Lines (λ (p : Prepared). record { books = map contents_of p.books.items; moves = p.moves.items; rows = p.ledger.items; text = p.text.items }) old new (job_in k.script.now k.seed k.fuel) c.serve_job.result ran.0 ran.1 ran.2 in
     (last.0, command-some old new (map string_bytes c.args.words.now) (Seq k.script.now k.seed k.fuel) last.0 (ap (λ x. Some (command_seen x)) (sym k.is) ∙ c.in-Some.ensures) last.1, last.2)
 
 pub returns-in-Predict : goal.returns-in-Predict
 returns-in-Predict g c =
     let k = c.in-Predict in
     let old = g.F.Files.outside c.args.files.now in
-    let new = g.F.Files.outside c.predicted.new.files in
-    let ran = c.predicted.ensures in
-    let last = work-ran Predicted (λ (p : Prepared). record { books = map contents_of p.books.items; moves = p.moves.items; rows = p.ledger.items; text = p.text.items }) old new k.script.now k.seed k.fuel c.predicted.result ran.0 ran.1 ran.2 in
+    let new = g.F.Files.outside c.serve_job-in-Predict.new.files in
+    let ran = c.serve_job-in-Predict.ensures in
+    let last = work-ran Predicted (λ (p : Prepared). record { books = map contents_of p.books.items; moves = p.moves.items; rows = p.ledger.items; text = p.text.items }) old new (job_in k.script.now k.seed k.fuel) c.serve_job-in-Predict.result ran.0 ran.1 ran.2 in
     (last.0, command-some old new (map string_bytes c.args.words.now) (Predict k.script.now k.seed k.fuel) last.0 (ap (λ x. Some (command_seen x)) (sym k.is) ∙ c.in-Some.ensures) last.1, last.2)
 
 pub returns-in-Show : goal.returns-in-Show
@@ -34,3 +35,18 @@ returns-in-Show g c =
     let k = c.in-Show in
     let shown = c.shown.ensures in
     (shown.0, command-some (g.F.Files.outside c.args.files.now) (g.F.Files.outside c.shown.new.files) (map string_bytes c.args.words.now) (Show k.file.now) shown.0 (ap (λ x. Some (command_seen x)) (sym k.is) ∙ c.in-Some.ensures) shown.1, shown.2)
+
+pub serve_job-requires-in-Gen : goal.serve_job-requires-in-Gen
+serve_job-requires-in-Gen g c =
+    let k = c.in-Gen in
+    let range = subst (λ o. IfSome o IsInRange) (sym (ap (λ x. Some (command_seen x)) (sym k.is) ∙ c.in-Some.ensures)) (c.law_in_range.ensures (map string_bytes c.args.words.now)) in
+    (range.0, range.1)
+
+pub returns-in-Gen : goal.returns-in-Gen
+returns-in-Gen g c =
+    let k = c.in-Gen in
+    let old = g.F.Files.outside c.args.files.now in
+    let new = g.F.Files.outside c.serve_job-in-Gen.new.files in
+    let ran = c.serve_job-in-Gen.ensures in
+    let last = work-ran (Generated k.number) (λ (p : Prepared). record { books = map contents_of p.books.items; moves = p.moves.items; rows = p.ledger.items; text = p.text.items }) old new (job_built k.number k.seed k.fuel) c.serve_job-in-Gen.result ran.0 ran.1 ran.2 in
+    (last.0, command-some old new (map string_bytes c.args.words.now) (Gen k.number k.seed k.fuel) last.0 (ap (λ x. Some (command_seen x)) (sym k.is) ∙ c.in-Some.ensures) last.1, last.2)

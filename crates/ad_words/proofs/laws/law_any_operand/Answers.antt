@@ -6,4 +6,5 @@ returns c = record {
   seq = λ word. refl;
   predict = λ word. refl;
   show = λ word. refl;
+  generated = λ word. refl;
 }
