@@ -36,6 +36,7 @@ use Rattle.ad_maps.proofs.Machine.{holds_of}
 use Rattle.ad_maps.proofs.FreeLaws.{member_law, unmap_law, unmap_found, give_law}
 use Rattle.ad_maps.proofs.ListLaw.{list_law}
 use Rattle.ad_maps.proofs.Numbers.{frame-few}
+use Rattle.ad_maps.proofs.Owners.{owner_law}
 use Rattle.ad_maps.proofs.OpenLaw.{open_law, push_law, settle_law}
 use Rattle.ad_maps.proofs.PayLaw.{pay_law}
 use Rattle.ad_maps.proofs.MapLaw.{map_law}
@@ -168,16 +169,21 @@ module _ (shape : Shape) (slots id : ℕ) where
         record { becomes = refl; few = omega arith },
       ))
 
-  pub allows_look : (st : Step (Unit {0})) (me : Sat) (f f' : ℕ) → f' ≡ f → IsMover me → f < 128 → Allows (Kept shape) slots id me (65560 + f) (λ n. n) (Looks f' st me)
-  allows_look st me f f' number is few = subst (λ (k : ℕ). Allows (Kept shape) slots id me (65560 + f) (λ n. n) (Looks k st me)) (sym number)
-      (subst (λ (x : Sat). Allows (Kept shape) slots id x (65560 + f) (λ n. n) (Looks f st x)) (sym is) (λ s r homes at fits.
+  pub allows_look : (st : Step (Unit {0})) (me : Sat) (f : ℕ) (shape' : Shape) (f' : ℕ) → shape' ≡ shape → f' ≡ f → IsMover me → f < 128 → Allows (Kept shape) slots id me (65560 + f) (λ n. n) (Looks shape' f' st me)
+  allows_look st me f shape' f' known number is few = subst (λ (k : Shape). Allows (Kept shape) slots id me (65560 + f) (λ n. n) (Looks k f' st me)) (sym known)
+      (subst (λ (k : ℕ). Allows (Kept shape) slots id me (65560 + f) (λ n. n) (Looks shape k st me)) (sym number)
+      (subst (λ (x : Sat). Allows (Kept shape) slots id x (65560 + f) (λ n. n) (Looks shape f st x)) (sym is) (λ s r homes at fits.
       let step = look_law shape s r id (plan_of me.0) f at few in (
         after_look f (Mover (plan_of me.0)) (get_or s.words (65560 + f) 0),
         keeps,
         tt,
         step.kept,
-        record { becomes = refl; number = let word = r.reads.1 (Owner f) few in let small = owner-number shape s r f in omega arith },
-      )))
+        record {
+          becomes = refl;
+          number = let word = r.reads.1 (Owner f) few in let small = owner-number shape s r f in omega arith;
+          last = λ idle some. owner_law shape s r id (plan_of me.0) f at idle few some;
+        },
+      ))))
 
   pub allows_take : (me : Sat) (g g' : Made) (word index : ℕ) → g' ≡ g → word ≡ g.place.mapping → index ≡ 65560 + g.place.frame → IsMover me → (plan_of me.0).stage ≡ stage.Idle → MayMap shape (plan_of me.0) g
       → Allows (Kept shape) slots id me index (λ _. word) (λ _. Then (after_take g') me word)

@@ -52,6 +52,7 @@ use Rattle.ad_maps.proofs.Freeings.{batching-plan, changed_for, for-here, for-wo
 use Rattle.ad_maps.proofs.Hands.{hand_regives, hand_stays, stance_stays}
 use Rattle.ad_maps.proofs.Machine.{holds_of, reached_after, lawful_of}
 use Rattle.ad_maps.proofs.MappingFrames.{ledger-same, mapped-says, mover_knows, plan-stays, words-stay}
+use Rattle.ad_maps.proofs.Owners.{newest-give}
 use Rattle.ad_maps.proofs.Numbers.{frame-few, packed-small, region-few}
 use Rattle.ad_maps.proofs.Pinned.{gone-or}
 use Rattle.ad_maps.proofs.Regions.{one-member, one-region}
@@ -362,6 +363,7 @@ module _ (shape : Shape) (s : St) (r : Kept shape s) (a : Agent) (b k m v : ℕ)
               (was.0, was.1, else was.0 other ∙ was.2, was.3)
         ];
     each_owner = λ g. each_owner' plan.stage g (old.each_owner g);
+    newest = old.newest;
     each_give = each_give';
     past_cells = old.past_cells;
     fresh = all-stay plan.fresh Fresh (λ z. let no : ⊥ = cc in no) (λ z. let no : ⊥ = cc in no) old.fresh;
@@ -627,6 +629,7 @@ module _ (shape : Shape) (s : St) (r : Kept shape s) (a : Agent) (p : Place) (ha
     each_current = old.each_current;
     each_region = old.each_region;
     each_owner = λ f. owner-given plan.stage f (old.each_owner f);
+    newest = newest-give r.ledger r.words.owner p.frame old.newest;
     each_give = λ q c. (let t = from-given q c in let was = r.mappings.each_give q t.0 in record { «module» = was.module; gone = was.gone; owns = owner-else q.frame (frame-else q.frame q.mapping was.owns t.1) ∙ was.owns });
     past_cells = old.past_cells;
     fresh = old.fresh;

@@ -1,5 +1,6 @@
 -- The mover's seat between two calls.
 use Rattle.std.proofs.Common.{◌≡◌, ℕ, ◌+◌, ◌<◌, List, [], ◌∷◌, ◌++◌, Result, Ok, Err, IfOk, IfErr, refl, sym, subst}
+use Rattle.ad_maps.specs.declared.shape.Shape.{Shape}
 use Rattle.ad_maps.specs.declared.view.Deed.{Deed}
 use Rattle.ad_maps.specs.declared.view.Made.{Made}
 use Rattle.ad_maps.specs.declared.view.Doing.TheVariants.{Mover}
@@ -24,9 +25,9 @@ module _ (me : Sat) (slots batches : ℕ) (idle : IsIdle me slots batches) where
     back = idle.back;
   })
 
-  pub finds-idle : (first frames : ℕ) (found : Result ℕ ℕ) (me' : Sat) → IfOk found (λ frame. FindsFrame first frames frame (plan_of me.0) me') → IfErr found (λ owner. FindsNone first frames owner (plan_of me.0) me') → IsIdle me' slots batches
-  finds-idle first frames (Ok frame) me' found none = looked-idle me' (frame ∷ (plan_of me.0).rooms) ((plan_of me.0).deeds ++ looks_from first (found.owners ++ 0 ∷ [])) found.view
-  finds-idle first frames (Err owner) me' found none = looked-idle me' (plan_of me.0).rooms ((plan_of me.0).deeds ++ looks_from first (none.owners ++ owner ∷ [])) none.view
+  pub finds-idle : (shape : Shape) (first frames : ℕ) (found : Result ℕ ℕ) (me' : Sat) → IfOk found (λ frame. FindsFrame shape first frames frame (plan_of me.0) me') → IfErr found (λ owner. FindsNone shape first frames owner (plan_of me.0) me') → IsIdle me' slots batches
+  finds-idle shape first frames (Ok frame) me' found none = looked-idle me' (frame ∷ (plan_of me.0).rooms) ((plan_of me.0).deeds ++ looks_from first (found.owners ++ 0 ∷ [])) found.view
+  finds-idle shape first frames (Err owner) me' found none = looked-idle me' (plan_of me.0).rooms ((plan_of me.0).deeds ++ looks_from first (none.owners ++ owner ∷ [])) none.view
 
   -- it has made a mapping
   pub mapped-idle : (me' : Sat) (g : Made) → me' ≡ (Mover (mapped_plan g (plan_of me.0)), []) → IsIdle me' slots batches

@@ -10,6 +10,7 @@ pub mod WorkerLaws
 pub mod ReadLaw
 pub mod Pinned
 pub mod MappingFrames
+pub mod Owners
 pub mod MoverLaws
 pub mod MapLaw
 pub mod SwitchLaw

@@ -168,6 +168,7 @@ module _ (shape : Shape) (s : St) (r : Kept shape s) (id : ℕ) (q : Plan) (g : 
           | inr ne ↦ (was.0, was.1, else was.0 ne ∙ was.2, was.3)
         ]);
     each_owner = each_owner';
+    newest = m.mappings.newest;
     each_give = λ p c. (let was = m.mappings.each_give p c in record { «module» = was.module; gone = stays (made was.module p) Gone (λ z. let no : ⊥ = cc in no) was.gone; owns = was.owns });
     past_cells = m.mappings.past_cells;
     fresh = record {

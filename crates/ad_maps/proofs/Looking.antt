@@ -1,14 +1,19 @@
 -- Looks at frames in order.
-use Rattle.std.proofs.Common.{◌≡◌, ◌≢◌, ℕ, suc, ◌+◌, ◌<◌, Bool, cond, eq-eqb, ne_eqb, List, [], ◌∷◌, ◌++◌, length, length-append, append_assoc, refl, sym, ap, ◌∙◌, arith}
+use Rattle.std.proofs.Common.{◌≡◌, ◌≢◌, ℕ, suc, ◌+◌, ◌<◌, Bool, cond, eq-eqb, ne_eqb, List, [], ◌∷◌, ◌++◌, length, length-append, append_assoc, refl, sym, ap, ◌∙◌, subst, arith}
 use Rattle.std.proofs.lemmas.List.{append-nil}
 use Rattle.std.proofs.lemmas.List.Elements.{All-nil, All-push}
 use Rattle.ad_maps.specs.declared.view.Deed.{Deed}
 use Rattle.ad_maps.specs.declared.view.Deed.TheVariants as deed
 use Rattle.ad_maps.specs.declared.view.Plan.{Plan}
 use Rattle.ad_maps.specs.declared.view.Doing.TheVariants.{Mover}
+use Rattle.ad_maps.specs.declared.shape.Shape.{Shape}
+use Rattle.ad_maps.specs.declared.view.Made.{Made}
+use Rattle.ad_maps.specs.Ledger.{all_made, IsLastIn}
 use Rattle.ad_maps.specs.Seen.{looks_from}
 use Rattle.ad_maps.specs.Steps.{Sat, looking}
 use Rattle.ad_maps.specs.Private.Handles.{plan_of, looked, HaveOwners, FindsFrame}
+use Rattle.ad_maps.proofs.Ledgers.{ledger-looks}
+use Rattle.ad_maps.proofs.Owners.{last-push}
 
 looks-push : (f : ℕ) (os : List ℕ) (o : ℕ) → looks_from f (os ++ o ∷ []) ≡ looks_from f os ++ deed.Look (f + length os) o ∷ []
 looks-push f [] o = let same : f + 0 ≡ f = omega arith in ap (λ (g : ℕ). deed.Look g o ∷ []) (sym same)
@@ -33,11 +38,12 @@ looked-free first frame os q o is none = λ i. record q {
 }
 
 -- no frame was looked at yet
-pub none-looked : (first last : ℕ) (q : Plan) (me : Sat) → me ≡ (Mover q, []) → HaveOwners first 0 last q me
-none-looked first last q me is = record {
+pub none-looked : (shape : Shape) (first last : ℕ) (q : Plan) (me : Sat) → me ≡ (Mover q, []) → HaveOwners shape first 0 last q me
+none-looked shape first last q me is = record {
   owners = [];
   length_is = refl;
   owned = All-nil (λ (o : ℕ). o ≢ 0);
+  newest = tt;
   view = is ∙ (λ i. (Mover (record q { deeds = sym (nil q.deeds) i }), []));
   end = λ l. absurd (omega arith);
 }
@@ -46,20 +52,25 @@ none-looked first last q me is = record {
     nil ds = append-nil ds
 
 -- one frame more, which has an owner
-pub one-looked : (first k last : ℕ) (q : Plan) (me me' : Sat) (owner : ℕ) → HaveOwners first k last q me → owner ≢ 0 → me' ≡ (Mover (looking (first + k) (plan_of me.0) owner), []) → (last' : ℕ) → last' ≡ owner → HaveOwners first (k + 1) last' q me'
-one-looked first k last q me me' owner have some is last' last_is = record {
+pub one-looked : (shape : Shape) (first k last : ℕ) (q : Plan) (me me' : Sat) (owner : ℕ) → HaveOwners shape first k last q me → owner ≢ 0 → IsLastIn (all_made shape (plan_of me.0).deeds) (first + k) owner
+    → me' ≡ (Mover (looking (first + k) (plan_of me.0) owner), []) → (last' : ℕ) → last' ≡ owner → HaveOwners shape first (k + 1) last' q me'
+one-looked shape first k last q me me' owner have some newest is last' last_is = record {
   owners = have.owners ++ owner ∷ [];
   length_is = length-append have.owners (owner ∷ []) ∙ ap (λ (n : ℕ). n + 1) have.length_is;
   owned = All-push (λ (o : ℕ). o ≢ 0) have.owners owner have.owned some;
+  newest = last-push (all_made shape q.deeds) first have.owners owner have.newest
+      (subst (λ (n : ℕ). IsLastIn (all_made shape q.deeds) (first + n) owner) (sym have.length_is)
+      (subst (λ (gs : List Made). IsLastIn gs (first + k) owner) (ap (λ (p : Sat). all_made shape (plan_of p.0).deeds) have.view ∙ ledger-looks shape q.deeds first have.owners) newest));
   view = is ∙ (ap (λ (p : Sat). (Mover (looking (first + k) (plan_of p.0) owner), [])) have.view ∙ ap (λ (p : Plan). (Mover p, [])) (looked-owned first (first + k) have.owners q owner (ap (λ (n : ℕ). first + n) (sym have.length_is)) some));
   end = λ _. (have.owners, ap (λ (o : ℕ). have.owners ++ o ∷ []) (sym last_is));
 }
 
 -- one frame more, which has none
-pub free-found : (first frames k last : ℕ) (q : Plan) (me me' : Sat) (owner frame : ℕ) → HaveOwners first k last q me → owner ≡ 0 → k < frames → frame ≡ first + k → me' ≡ (Mover (looking (first + k) (plan_of me.0) owner), []) → FindsFrame first frames frame q me'
-free-found first frames k last q me me' owner frame have none low frame_is is = record {
+pub free-found : (shape : Shape) (first frames k last : ℕ) (q : Plan) (me me' : Sat) (owner frame : ℕ) → HaveOwners shape first k last q me → owner ≡ 0 → k < frames → frame ≡ first + k → me' ≡ (Mover (looking (first + k) (plan_of me.0) owner), []) → FindsFrame shape first frames frame q me'
+free-found shape first frames k last q me me' owner frame have none low frame_is is = record {
   owners = have.owners;
   owned = have.owned;
+  newest = have.newest;
   frame_is = frame_is ∙ ap (λ (n : ℕ). first + n) (sym have.length_is);
   within = let l = have.length_is in omega arith;
   view = is ∙ (ap (λ (p : Sat). (Mover (looking (first + k) (plan_of p.0) owner), [])) have.view

@@ -36,6 +36,7 @@ use Rattle.ad_maps.proofs.Hands.{hand_stays}
 use Rattle.ad_maps.proofs.Machine.{holds_of, reached_after, lawful_of}
 use Rattle.ad_maps.proofs.MappingFrames.{words-stay, cell-past, mover_knows, module-there}
 use Rattle.ad_maps.proofs.Numbers.{region-few}
+use Rattle.ad_maps.proofs.Owners.{newest-map}
 use Rattle.ad_maps.proofs.Writes.{writes}
 use Rattle.ad_maps.proofs.Telling.{deeds-more, told-quiet}
 
@@ -185,6 +186,7 @@ module _ (shape : Shape) (s : St) (r : Kept shape s) (q : Plan) (g : Made)
     each_current = each_current';
     each_region = each_region';
     each_owner = each_owner' taken;
+    newest = newest-map r.ledger r.words.owner g m.newest now.owns;
     each_give = each_give';
     past_cells = m.past_cells;
     fresh = fresh';

@@ -27,6 +27,7 @@ use Rattle.ad_maps.proofs.Frames.{mover_step}
 use Rattle.ad_maps.proofs.Freeings.{batching-plan}
 use Rattle.ad_maps.proofs.MappingFrames.{mappings-stay, words-stay, mover_knows, ledger-same}
 use Rattle.ad_maps.proofs.Numbers.{frame-few}
+use Rattle.ad_maps.proofs.Owners.{newest-take}
 use Rattle.ad_maps.proofs.Writes.{writes, rereads, row-here, row-column, row-else}
 use Rattle.ad_maps.proofs.Telling.{deeds-more, deeds-stay, told-none}
 
@@ -106,6 +107,7 @@ take_law shape s r id q g at idle may =
             | inl e ↦ inr (inr (inr (sym e, sym (changed-here r.words.owner f n h e))))
             | inr ne ↦ subst (OwnerStands r.state.world.mappings r.places (IsToGive r.gives) (stage.Taken g 0) h) (sym (changed-else r.words.owner f n h ne)) (not-taken h (r.words.owner h) (subst (λ (d : Stage). OwnerStands r.state.world.mappings r.places (IsToGive r.gives) d h (r.words.owner h)) idle (m.each_owner h)))
           ];
+      newest = newest-take r.ledger r.words.owner f n m.newest (λ x c. may.above x (subst (λ (gs : List Made). Contains gs x) k.ledger_is c));
       each_give = λ p c. (let old = m.each_give p c in let some = (m.each p.mapping _ old.gone.there).form.place.place.mapping_from in let same = ap (λ (x : Place). x.mapping) old.gone.placed in let owns = old.owns in record {
         «module» = old.module;
         gone = old.gone;
@@ -168,6 +170,7 @@ fill_law shape s r id q g e at taken low =
       each_current = m.each_current;
       each_region = m.each_region;
       each_owner = λ h. subst (λ (d : Stage). OwnerStands r.state.world.mappings r.places (IsToGive r.gives) d h (r.words.owner h)) taken (m.each_owner h);
+      newest = m.newest;
       each_give = m.each_give;
       past_cells = λ h d past.
           elim (cases_eq h f) [

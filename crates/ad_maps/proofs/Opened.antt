@@ -34,8 +34,8 @@ use Rattle.ad_maps.specs.declared.view.Plan.{Plan}
 use Rattle.ad_maps.specs.declared.view.Doing.{Doing}
 use Rattle.ad_maps.specs.declared.view.Doing.TheVariants.{Mover}
 use Rattle.ad_maps.specs.Ledger.{opened_from, all_made}
-use Rattle.ad_maps.specs.MapPlace.{no_opening, nowhere, opening_of, numbers, IsPlaceOf, IsShape}
-use Rattle.ad_maps.specs.Rule.{AllMappings, IsAs, Kept, Knows, Mappings, MappingStands, starting}
+use Rattle.ad_maps.specs.MapPlace.{no_opening, nowhere, module_of_frame, opening_of, numbers, IsPlaceOf, IsShape}
+use Rattle.ad_maps.specs.Rule.{AllMappings, IsAs, Kept, Knows, Mappings, MappingStands, OwnersAreNewest, starting}
 use Rattle.ad_maps.specs.Steps.{made, new_hand}
 use Rattle.ad_maps.specs.Private.Laid.{place_of_module, Laid}
 use Rattle.ad_maps.proofs.Elements.{none-in, cons-cases, cons-here, cons-later}
@@ -77,6 +77,14 @@ opened-all P shape each x c =
     let t = opened-is 0 shape.modules x (subst (λ (gs : List Made). Contains gs x) (append-nil (opened_from 0 shape.modules)) c) in
     let same : 0 + t.0 ≡ t.0 = omega arith in
     subst P (ap (λ (i : ℕ). made i (opening_of shape t.0).place) (sym same) ∙ sym t.2) (each t.0 t.1)
+
+-- the first mapping of each module has a place of the module
+first-place : (shape : Shape) → IsShape shape → (m : ℕ) → m < length shape.modules → IsPlaceOf shape m (opening_of shape m).place
+first-place shape form m low = record { for_module = low; place = (form.each m low).place; size = refl; frame = frame-of shape form m low }
+
+-- and so has each mapping that was made at the opening
+pub opened-places : (shape : Shape) → IsShape shape → (x : Made) → Contains (all_made shape []) x → IsPlaceOf shape x.of_module x.place
+opened-places shape form = opened-all (λ (x : Made). IsPlaceOf shape x.of_module x.place) shape (first-place shape form)
 
 -- ---- the machine at the opening
 
@@ -122,22 +130,31 @@ module _ (shape : Shape) (form : IsShape shape) (xs : List ℕ) (laid : Laid sha
   from : (n : ℕ) (x : Mapping) → map.get ms n ≡ Some x → (m : ℕ) × (m < length shape.modules) × ((place_of_module shape m).mapping ≡ n) × (x ≡ mapping_of m Current)
   from n x there = let t = has.no_other n x there in let low : t.0 < length shape.modules = (let b = t.1 in omega (arith, long)) in (t.0, low, sym (number_at shape t.0 low) ∙ t.2, t.3)
 
-  is_place : (m : ℕ) → m < length shape.modules → IsPlaceOf shape m (place_of_module shape m)
-  is_place m low = record { for_module = low; place = (form.each m low).place; size = refl; frame = frame-of shape form m low }
-
   listed : (m : ℕ) → m < length shape.modules → Contains ledger (made m (place_of_module shape m))
   listed m low = Contains-append_left (opened_from 0 shape.modules) [] (made m (place_of_module shape m)) (subst (λ (i : ℕ). Contains (opened_from 0 shape.modules) (made i (place_of_module shape m))) (let same : 0 + m ≡ m = omega arith in same) (opened-has 0 shape.modules m low))
 
   stands : (m : ℕ) → m < length shape.modules → MappingStands shape ledger laid.words.directory laid.words.owner laid.words.cell (place_of_module shape m) (place_of_module shape m).mapping (mapping_of m Current)
   stands m low = record {
     number = refl;
-    form = is_place m low;
+    form = first-place shape form m low;
     listed = listed m low;
     words = record { word = laid.laid.directory m low; owns = laid.laid.owner m low; cells = λ e b. laid.laid.cells m low e };
   }
 
   none-other : (s : Status) → s ≢ Current → (n m : ℕ) → map.get ms n ≡ Some (mapping_of m s) → ⊥
   none-other s apart n m there = apart (ap (λ (x : Mapping). x.status) (from n (mapping_of m s) there).3)
+
+  -- in a frame of the table as it is opened no mapping was made but the first of a module
+  newest-opened : OwnersAreNewest ledger laid.words.owner
+  newest-opened f owned x c in_frame =
+      let t = opened-is 0 shape.modules x (subst (λ (gs : List Made). Contains gs x) (append-nil (opened_from 0 shape.modules)) c) in
+      let place : x.place ≡ place_of_module shape t.0 = ap (λ (y : Made). y.place) t.2 in
+      ⊎_elim (λ none. absurd (owned none))
+      (λ o.
+      let here : (place_of_module shape t.0).frame ≡ (place_of_module shape o.0).frame = ap (λ (p : Place). p.frame) (sym place) ∙ (in_frame ∙ sym o.2) in
+      let of : t.0 ≡ o.0 = sym (frame-of shape form t.0 t.1) ∙ (ap (module_of_frame shape) here ∙ frame-of shape form o.0 o.1) in
+      let number : x.place.mapping ≡ laid.words.owner f = ap (λ (p : Place). p.mapping) (place ∙ ap (place_of_module shape) of) ∙ sym o.3 in omega arith)
+      (laid.laid.owned f)
 
   mappings : Mappings shape ms places ledger (record { stage = stage.Idle; passing = passing.Rest; batches = 0; freeing = freeing.Nothing; slots = shape.slots; dealt = 0; current = numbers shape; fresh = []; outs = []; rooms = []; gives = []; deeds = []; back = [] }) (λ _. [])
       laid.words.current laid.words.directory laid.words.owner laid.words.cell
@@ -161,6 +178,7 @@ module _ (shape : Shape) (form : IsShape shape) (xs : List ℕ) (laid : Laid sha
     each_owner = λ f. ⊎_elim inl
         (λ t. inr (inl (mapping_of t.0 Current, ap (map.get ms) t.3 ∙ (is_current t.0 t.1).there, (λ e. let z : ⊥ = cc in z), ap (λ (p : Place). p.frame) (ap places t.3 ∙ placed t.0 t.1) ∙ t.2)))
         (laid.laid.owned f);
+    newest = newest-opened;
     each_give = λ p c. absurd (none-in p c.1);
     past_cells = laid.laid.past;
     fresh = record { each = λ g c. absurd (none-in g c); only = λ n m there. absurd (none-other Fresh (λ e. let z : ⊥ = cc in z) n m there) };

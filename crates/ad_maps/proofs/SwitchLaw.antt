@@ -234,6 +234,7 @@ module _ (shape : Shape) (s : St) (r : Kept shape s) (q : Plan) (g : Made)
     each_current = each_current' low;
     each_region = each_region';
     each_owner = each_owner';
+    newest = k.newest;
     each_give = each_give';
     past_cells = k.past_cells;
     fresh = fresh';

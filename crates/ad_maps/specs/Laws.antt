@@ -24,7 +24,7 @@ use Rattle.ad_maps.specs.declared.view.Doing.{Doing}
 use Rattle.ad_maps.specs.declared.view.Doing.TheVariants.{Spent, Worker, Mover}
 use Rattle.ad_maps.specs.Names.{Name, Slot, Current, Directory, Owner, Cell, Count, Member, index}
 use Rattle.ad_maps.specs.MapPlace.{cell_word, cells_of, member_word, IsPlaceOf}
-use Rattle.ad_maps.specs.Ledger.{all_made}
+use Rattle.ad_maps.specs.Ledger.{all_made, IsLastIn}
 use Rattle.ad_maps.specs.Rule.{St, Kept}
 use Rattle.ad_maps.specs.Steps.{agent_of, freeing_of, gives_of, hand, new_hand, settles, after_enter, after_read, after_act, after_leave, after_pay, after_member, after_unmap, after_give, after_look, after_take, after_fill, after_map, after_switch, after_list, after_open, after_push, after_settle, dealing, gathering}
 
@@ -213,6 +213,14 @@ JoinLaw = (shape : Shape) (s : St) (r : Kept shape s) (id : ℕ) (q : Plan) (oth
     → let h = hand slot stance.Away [] acts in
     get_elem? s.views id ≡ some (Mover q) → ¬ (other ≡ id) → get_elem? s.views other ≡ some (Worker w h) → w ≡ length q.back
     → Stays shape s r (record { words = s.words; homes = s.homes; views = slice_set (slice_set s.views id (Mover (gathering q h))) other Spent })
+
+-- ---- what the mover finds
+
+-- where no new mapping is under way, the mover finds in a frame's owner 0 or the mapping that was made last in the frame
+abbrev pub OwnerLaw : Type 0
+OwnerLaw = (shape : Shape) (s : St) (r : Kept shape s) (id : ℕ) (q : Plan) (f : ℕ)
+    → get_elem? s.views id ≡ some (Mover q) → q.stage ≡ stage.Idle → f < FRAME_WORDS → found_in s (Owner f) ≢ 0
+    → IsLastIn (all_made shape q.deeds) f (found_in s (Owner f))
 
 -- ---- what a worker that is inside finds
 

@@ -1,5 +1,5 @@
 -- The mappings that were made, and what a seat's list of steps tells.
-use Rattle.std.specs.Prelude.{ℕ, Bool, false, count_by, ◌+◌, ◌≤◌, ◌==◌, List, [], ◌∷◌, ◌++◌, AllPairs, if◌then◌else◌}
+use Rattle.std.specs.Prelude.{◌≡◌, ℕ, Bool, false, count_by, ◌+◌, ◌≤◌, ◌==◌, List, [], ◌∷◌, ◌++◌, AllPairs, Contains, if◌then◌else◌}
 use Rattle.ad_maps.specs.declared.shape.Opening.{Opening}
 use Rattle.ad_maps.specs.declared.shape.Shape.{Shape}
 use Rattle.ad_maps.specs.declared.view.Act.{Act}
@@ -26,6 +26,19 @@ maps_in (deed.Unmap n ∷ ds) = maps_in ds
 -- all mappings that were made: those of the opening, and the mover's
 abbrev pub all_made : Shape → List Deed → List Made
 all_made shape deeds = opened_from 0 shape.modules ++ maps_in deeds
+
+-- an owner of a frame is the mapping that was made last in it
+pub record IsLastIn (mappings : List Made) (frame owner : ℕ) : Type 0 where
+  pub mapping : Made
+  pub listed : Contains mappings mapping
+  pub number : mapping.place.mapping ≡ owner
+  pub in_frame : mapping.place.frame ≡ frame
+  pub newest : (x : Made) → Contains mappings x → x.place.frame ≡ frame → x.place.mapping ≤ owner
+
+-- the owners of frames from this one on are the mappings that were made last in them
+abbrev pub AreLastIn : List Made → ℕ → List ℕ → Type 0
+AreLastIn mappings frame [] = Unit {0}
+AreLastIn mappings frame (o ∷ os) = IsLastIn mappings frame o × AreLastIn mappings (frame + 1) os
 
 -- the line under which the mapping of a number was retired, or 0
 abbrev pub line_in : List Deed → ℕ → ℕ

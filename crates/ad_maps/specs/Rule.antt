@@ -93,6 +93,10 @@ pub record CurrentStands (ms : AllMappings) (places : ℕ → Place) (currents :
 abbrev pub RegionStands : AllMappings → (ℕ → Place) → (ℕ → ℕ) → ℕ → Type 0
 RegionStands ms places directory r = directory r ≢ 0 → (n : ℕ) × (x : Mapping) × (map.get ms n ≡ Some x) × ((places n).region ≡ r)
 
+-- no mapping that was made in a frame has a number above that of the frame's owner
+abbrev pub OwnersAreNewest : List Made → (ℕ → ℕ) → Type 0
+OwnersAreNewest ledger owner = (f : ℕ) → owner f ≢ 0 → (x : Made) → Contains ledger x → x.place.frame ≡ f → x.place.mapping ≤ owner f
+
 -- a worker or the mover unmapped the mapping of this place, and hasn't given its frame back
 abbrev pub IsToGive : (Agent → List Place) → Place → Type 0
 IsToGive gives p = (a : Agent) × Contains (gives a) p
@@ -143,6 +147,7 @@ pub record Mappings (shape : Shape) (ms : AllMappings) (places : ℕ → Place) 
   pub each_current : (m : ℕ) → m < length shape.modules → CurrentStands ms places plan.current current m
   pub each_region : (r : ℕ) → RegionStands ms places directory r
   pub each_owner : (f : ℕ) → OwnerStands ms places (IsToGive gives) plan.stage f (owner f)
+  pub newest : OwnersAreNewest ledger owner
   pub each_give : (p : Place) → IsToGive gives p → GiveStands ms places owner p
   pub past_cells : (f e : ℕ) → length (cells_of shape (module_of_frame shape f)) ≤ e → cell f e ≡ 0
   pub fresh : AreAll ms places plan.fresh Fresh

@@ -8,6 +8,7 @@ use Rattle.ad_maps.specs.declared.view.Act.TheVariants as act
 use Rattle.ad_maps.specs.declared.view.Deed.{Deed}
 use Rattle.ad_maps.specs.declared.view.Deed.TheVariants as deed
 use Rattle.ad_maps.specs.declared.view.Made.{Made}
+use Rattle.ad_maps.specs.Ledger.{all_made, AreLastIn}
 use Rattle.ad_maps.specs.MapPlace.{numbers}
 
 -- the list of what a worker did grew by unmaps alone
@@ -80,19 +81,22 @@ abbrev pub looks_from : ℕ → List ℕ → List Deed
 looks_from f [] = []
 looks_from f (o ∷ os) = deed.Look f o ∷ looks_from (f + 1) os
 
--- The looks for a room: each frame from the first one on had an owner, up to one that had none
-pub record FoundRoom (first frames : ℕ) (before after : MoverSeen) (room : RoomSeen) : Type 0 where
+-- The looks for a room: each frame from the first one on had an owner, the mapping that was made last in it, up to one
+-- that had none
+pub record FoundRoom (shape : Shape) (first frames : ℕ) (before after : MoverSeen) (room : RoomSeen) : Type 0 where
   pub owners : List ℕ
   pub owned : All (λ (o : ℕ). o ≢ 0) owners
+  pub last : AreLastIn (all_made shape before.deeds) first owners
   pub frame : room.frame ≡ first + length owners
   pub within : length owners < frames
   pub looks : after.deeds ≡ before.deeds ++ looks_from first (owners ++ 0 ∷ [])
   pub rooms : after.rooms ≡ room.frame ∷ before.rooms
 
--- each frame had an owner, the last one this
-pub record FoundNone (first frames : ℕ) (before after : MoverSeen) (owner : ℕ) : Type 0 where
+-- each frame had an owner, the mapping that was made last in it, the last one this
+pub record FoundNone (shape : Shape) (first frames : ℕ) (before after : MoverSeen) (owner : ℕ) : Type 0 where
   pub owners : List ℕ
   pub owned : All (λ (o : ℕ). o ≢ 0) (owners ++ owner ∷ [])
+  pub last : AreLastIn (all_made shape before.deeds) first (owners ++ owner ∷ [])
   pub all : length owners + 1 ≡ frames
   pub looks : after.deeds ≡ before.deeds ++ looks_from first (owners ++ owner ∷ [])
   pub rooms : after.rooms ≡ before.rooms

@@ -1,6 +1,6 @@
 //! The laws of the steps. Each function makes no call: its contract is the law.
 
-ghost use Rattle.ad_maps.specs.Laws.{EnterLaw, ReadLaw, PageLaw, CellLaw, LeaveLaw, PayLaw, MemberLaw, UnmapLaw, GiveLaw, LookLaw, TakeLaw, FillLaw, MapLaw, SwitchLaw, ListLaw, OpenLaw, PushLaw, SettleLaw, SplitLaw, JoinLaw, OwnPagesLaw, OwnCellsLaw};
+ghost use Rattle.ad_maps.specs.Laws.{EnterLaw, ReadLaw, PageLaw, CellLaw, LeaveLaw, PayLaw, MemberLaw, UnmapLaw, GiveLaw, LookLaw, TakeLaw, FillLaw, MapLaw, SwitchLaw, ListLaw, OpenLaw, PushLaw, SettleLaw, SplitLaw, JoinLaw, OwnerLaw, OwnPagesLaw, OwnCellsLaw};
 ghost use Rattle.ad_maps.specs.Owing.{CountsLaw, MoverOwesNothingLaw, PinnedLaw, QuietLaw, WorkerOwesNothingLaw};
 ghost use Rattle.ad_maps.specs.Reading.{ReadingLaw};
 
@@ -55,6 +55,12 @@ pub fn law_other()
     ensures give { GiveLaw }
     ensures split { SplitLaw }
     ensures join { JoinLaw }
+{}
+
+/// Where no new mapping is under way, the mover finds that a frame has no owner, or that its owner is the mapping that
+/// was made last in it.
+pub fn law_owner()
+    ensures { OwnerLaw }
 {}
 
 /// A worker that is inside finds its own mapping: in the directory, where no other region has a word with its

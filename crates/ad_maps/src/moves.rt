@@ -25,17 +25,19 @@ use std::marker::Brand;
 
 impl Maps {
     /// Looks at the module's frames in order of number, up to the first one that has no owner, which stays so until
-    /// the mover takes it. `Busy` comes exactly where each of them had an owner at this call's look at it.
+    /// the mover takes it. `Busy` comes exactly where each of them had an owner at this call's look at it. The owner of
+    /// a frame is the mapping that was made last in it.
     pub fn room(&self, mover: &mut MoverSeat, module: u64) -> Result<Room, Busy>
         requires table { mover.old.table ≡ self.now.table }
         requires in_range { «module» < length self.now.shape.modules }
-        ensures found { IfOk result (λ room. FoundRoom («module» * self.now.shape.frames) self.now.shape.frames mover.old mover.new room) }
+        ensures found { IfOk result (λ room. FoundRoom self.now.shape («module» * self.now.shape.frames) self.now.shape.frames mover.old mover.new room) }
         ensures of_module { IfOk result (λ room. room.of_module ≡ «module») }
-        ensures none { IfErr result (λ busy. FoundNone («module» * self.now.shape.frames) self.now.shape.frames mover.old mover.new busy.owner) }
+        ensures none { IfErr result (λ busy. FoundNone self.now.shape («module» * self.now.shape.frames) self.now.shape.frames mover.old mover.new busy.owner) }
         ensures table { mover.new.table ≡ mover.old.table }
         ensures current { mover.new.current ≡ mover.old.current }
         ensures fresh { mover.new.fresh ≡ mover.old.fresh }
         ensures outs { mover.new.outs ≡ mover.old.outs }
+        ensures at_rest { mover.new.at_rest ≡ mover.old.at_rest }
     {
         let first = module * self.frames;
         match find(&self.table, &mut mover.seat, first, self.frames) {
@@ -64,6 +66,7 @@ impl Maps {
         ensures table { mover.new.table ≡ mover.old.table }
         ensures current { mover.new.current ≡ mover.old.current }
         ensures outs { mover.new.outs ≡ mover.old.outs }
+        ensures at_rest { mover.new.at_rest ≡ mover.old.at_rest }
     {
         let made = Made {
             of_module: room.of_module,
@@ -88,6 +91,7 @@ impl Maps {
         ensures new { (g : Made) → Contains mover.old.outs g → g.place.mapping ≢ result.place.mapping }
         ensures table { mover.new.table ≡ mover.old.table }
         ensures rooms { mover.new.rooms ≡ mover.old.rooms }
+        ensures at_rest { mover.new.at_rest ≡ mover.old.at_rest }
     {
         let Mapped { made } = mapped;
         let word = steps::switch::<Brand>(&self.table, &mut mover.seat, made);
@@ -105,11 +109,12 @@ impl Maps {
 fn find(table: &MapTable, seat: &mut TableSeat, first: u64, frames: u64) -> Result<u8, u16>
     requires at { IsAt table.now.shared.table_id seat.old.table_id }
     requires mover { IsMover seat.old.me }
+    requires idle { (plan_of seat.old.me.0).stage ≡ stage.Idle }
     requires some { 0 < frames }
     requires frames { first + frames ≤ FRAME_WORDS }
     ensures at { seat.new.table_id ≡ seat.old.table_id }
-    ensures found { IfOk result (λ frame. FindsFrame first frames frame (plan_of seat.old.me.0) seat.new.me) }
-    ensures none { IfErr result (λ owner. FindsNone first frames owner (plan_of seat.old.me.0) seat.new.me) }
+    ensures found { IfOk result (λ frame. FindsFrame table.now.shared.key first frames frame (plan_of seat.old.me.0) seat.new.me) }
+    ensures none { IfErr result (λ owner. FindsNone table.now.shared.key first frames owner (plan_of seat.old.me.0) seat.new.me) }
 {
     let mut last = 0;
     for index in 0..frames {

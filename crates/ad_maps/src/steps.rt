@@ -12,7 +12,7 @@ ghost use Rattle.ad_maps.specs.declared.view.Freeing.TheVariants as freeing;
 ghost use Rattle.ad_maps.specs.declared.view.Passing.TheVariants as passing;
 ghost use Rattle.ad_maps.specs.declared.view.Doing.TheVariants.{Mover};
 ghost use Rattle.ad_maps.specs.Laws.{MayList, MayMap};
-ghost use Rattle.ad_maps.specs.Ledger.{reads_of, NeverFall};
+ghost use Rattle.ad_maps.specs.Ledger.{all_made, reads_of, IsLastIn, NeverFall};
 ghost use Rattle.ad_maps.specs.MapPlace.{cell_word, cells_of};
 ghost use Rattle.ad_maps.specs.Steps.{after_give, after_member, after_unmap, begins, filling, gives_of, left_with, listing, looking, mapping, next_slot, opened, settles, switching, taking};
 ghost use Rattle.ad_maps.specs.Private.Handles.{acts_of, entry_in, module_in, plan_of, stance_of, worker_of, HasRoom, IsAt, IsEntered, IsFreer, IsMover, IsPinned, IsToFree, IsWorker};
@@ -193,13 +193,15 @@ pub(crate) fn give(table: &MapTable, seat: &mut TableSeat, place: &Place)
 
 /// Loads the owner of a frame.
 pub(crate) fn look<N: Noted>(table: &MapTable, seat: &mut TableSeat, frame: u64) -> u64
-    requires noted { N.number ≡ frame }
+    requires noted { (N.shape ≡ table.now.shared.key) × (N.number ≡ frame) }
     requires at { IsAt table.now.shared.table_id seat.old.table_id }
     requires mover { IsMover seat.old.me }
+    requires idle { (plan_of seat.old.me.0).stage ≡ stage.Idle }
     requires frame { frame < FRAME_WORDS }
     ensures at { seat.new.table_id ≡ seat.old.table_id }
     ensures view { seat.new.me ≡ (Mover (looking frame (plan_of seat.old.me.0) result), []) }
     ensures number { result ≤ MAPPINGS }
+    ensures last { result ≢ 0 → IsLastIn (all_made table.now.shared.key (plan_of seat.old.me.0).deeds) frame result }
 {
     table
         .shared

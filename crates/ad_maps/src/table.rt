@@ -143,7 +143,7 @@ pub(crate) struct Look<N> {
 impl<N: Noted> Play<(), Doing> for Look<N> {
     ghost use Rattle.ad_maps.specs.Private.Tells.{Looks};
 
-    ghost then = { Looks N.number };
+    ghost then = { Looks N.shape N.number };
 }
 
 /// The mover takes the frame of a new mapping.

@@ -15,6 +15,8 @@ use Rattle.ad_maps.specs.declared.view.Plan.{Plan}
 use Rattle.ad_maps.specs.declared.view.Doing.{Doing}
 use Rattle.ad_maps.specs.declared.view.Doing.TheVariants.{Spent, Worker, Mover}
 use Rattle.ad_maps.specs.declared.view.Deed.TheVariants as deed
+use Rattle.ad_maps.specs.declared.shape.Shape.{Shape}
+use Rattle.ad_maps.specs.Ledger.{all_made, AreLastIn}
 use Rattle.ad_maps.specs.Seen.{looks_from}
 use Rattle.ad_maps.specs.declared.view.Act.TheVariants as act
 use Rattle.ad_maps.specs.declared.view.Passing.{Passing}
@@ -120,25 +122,28 @@ abbrev pub looked : ℕ → List ℕ → Plan → Plan
 looked first owners q = record q { deeds = q.deeds ++ looks_from first owners }
 
 -- so many frames from the first one on were looked at, each with an owner; the last one's is this
-pub record HaveOwners (first count last : ℕ) (before : Plan) (me : Sat) : Type 0 where
+pub record HaveOwners (shape : Shape) (first count last : ℕ) (before : Plan) (me : Sat) : Type 0 where
   pub owners : List ℕ
   pub length_is : length owners ≡ count
   pub owned : All (λ (o : ℕ). o ≢ 0) owners
+  pub newest : AreLastIn (all_made shape before.deeds) first owners
   pub view : me ≡ (Mover (looked first owners before), [])
   pub end : 0 < count → (earlier : List ℕ) × (owners ≡ earlier ++ last ∷ [])
 
 -- the frame has no owner, and each one before it has one
-pub record FindsFrame (first frames frame : ℕ) (before : Plan) (me : Sat) : Type 0 where
+pub record FindsFrame (shape : Shape) (first frames frame : ℕ) (before : Plan) (me : Sat) : Type 0 where
   pub owners : List ℕ
   pub owned : All (λ (o : ℕ). o ≢ 0) owners
+  pub newest : AreLastIn (all_made shape before.deeds) first owners
   pub frame_is : frame ≡ first + length owners
   pub within : length owners < frames
   pub view : me ≡ (Mover (record before { rooms = frame ∷ before.rooms; deeds = before.deeds ++ looks_from first (owners ++ 0 ∷ []) }), [])
 
 -- each frame has an owner, the last one this
-pub record FindsNone (first frames owner : ℕ) (before : Plan) (me : Sat) : Type 0 where
+pub record FindsNone (shape : Shape) (first frames owner : ℕ) (before : Plan) (me : Sat) : Type 0 where
   pub owners : List ℕ
   pub owned : All (λ (o : ℕ). o ≢ 0) (owners ++ owner ∷ [])
+  pub newest : AreLastIn (all_made shape before.deeds) first (owners ++ owner ∷ [])
   pub all : length owners + 1 ≡ frames
   pub view : me ≡ (Mover (looked first (owners ++ owner ∷ []) before), [])
 

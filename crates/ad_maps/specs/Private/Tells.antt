@@ -8,7 +8,8 @@ use Rattle.ad_maps.specs.declared.shape.Shape.{Shape}
 use Rattle.ad_maps.specs.declared.words.TheConstants.{FRAME_WORDS, NUMBERS}
 use Rattle.ad_maps.specs.declared.view.Act.TheVariants as act
 use Rattle.ad_maps.specs.declared.view.Made.{Made}
-use Rattle.ad_maps.specs.Ledger.{reads_of, NeverFall}
+use Rattle.ad_maps.specs.declared.view.Stage.TheVariants as stage
+use Rattle.ad_maps.specs.Ledger.{all_made, reads_of, IsLastIn, NeverFall}
 use Rattle.ad_maps.specs.MapPlace.{nowhere, cell_word, cells_of, IsPlaceOf}
 use Rattle.ad_maps.specs.Steps.{Sat, made, Becomes, after_read, after_act, after_leave, after_look, after_open, after_switch, after_unmap}
 use Rattle.ad_maps.specs.Private.Handles.{acts_of, stance_of, pinned_by, plan_of, HasRoom}
@@ -45,10 +46,11 @@ pub record Opens (st : Step (Unit {0})) (me : Sat) (found : ℕ) (me' : Sat) : T
   pub becomes : Becomes after_open st me found me'
   pub room : HasRoom (plan_of me'.0)
 
--- a look finds 0 or the number of a mapping
-pub record Looks (f : ℕ) (st : Step (Unit {0})) (me : Sat) (found : ℕ) (me' : Sat) : Type 0 where
+-- a look finds 0 or the number of a mapping: where no new mapping is under way, of the one that was made last in the frame
+pub record Looks (shape : Shape) (f : ℕ) (st : Step (Unit {0})) (me : Sat) (found : ℕ) (me' : Sat) : Type 0 where
   pub becomes : Becomes (after_look f) st me found me'
   pub number : found ≤ MAPPINGS
+  pub last : (plan_of me.0).stage ≡ stage.Idle → found ≢ 0 → IsLastIn (all_made shape (plan_of me.0).deeds) f found
 
 -- a switch finds the word of the mapping that was current
 pub record Switches (shape : Shape) (g : Made) (st : Step (Unit {0})) (me : Sat) (found : ℕ) (me' : Sat) : Type 0 where
