@@ -1,0 +1,4 @@
+pub mod Asking
+pub mod Composed
+pub mod HandsAgain
+pub mod ReadActs

@@ -1,0 +1,4 @@
+pub mod Asking
+pub mod Fits
+pub mod Performed
+pub mod Private
