@@ -1,0 +1,4 @@
+pub mod Moves
+pub mod Private
+pub mod Requests
+pub mod Seen

@@ -1,0 +1,10 @@
+//! The mover: it makes the lines of a script that move modules and give workers fresh stacks.
+#![tactic(auto)]
+
+mod laws;
+mod move_line;
+mod mover;
+mod stack_line;
+
+pub use laws::law_requests;
+pub use mover::{Mover, run_moves};
