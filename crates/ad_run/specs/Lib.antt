@@ -1,0 +1,6 @@
+pub mod Calls
+pub mod Jobs
+pub mod Opened
+pub mod Rows
+pub mod Beside
+pub mod Ended
