@@ -102,13 +102,13 @@ falls-push ns n falls below = all_pairs_push (λ (x y : ℕ). x ≤ y) ns n fall
 
 -- ---- what a list of deeds tells
 
-pub maps-push : (deeds : List Deed) (d : Deed) → maps_in (deeds ++ d ∷ []) ≡ maps_in deeds ++ maps_in (d ∷ [])
-maps-push [] d = refl
-maps-push (deed.Look f o ∷ ds) d = maps-push ds d
-maps-push (deed.Map m p ∷ ds) d = ap (λ (gs : List Made). made m p ∷ gs) (maps-push ds d)
-maps-push (deed.Switch m p ∷ ds) d = maps-push ds d
-maps-push (deed.Retire n line ∷ ds) d = maps-push ds d
-maps-push (deed.Unmap n ∷ ds) d = maps-push ds d
+pub maps-append : (xs ys : List Deed) → maps_in (xs ++ ys) ≡ maps_in xs ++ maps_in ys
+maps-append [] ys = refl
+maps-append (deed.Look f o ∷ xs) ys = maps-append xs ys
+maps-append (deed.Map m p ∷ xs) ys = ap (λ (gs : List Made). made m p ∷ gs) (maps-append xs ys)
+maps-append (deed.Switch m p ∷ xs) ys = maps-append xs ys
+maps-append (deed.Retire n line ∷ xs) ys = maps-append xs ys
+maps-append (deed.Unmap n ∷ xs) ys = maps-append xs ys
 
 -- a deed that retires nothing leaves each line
 pub lines-push : (deeds : List Deed) (d : Deed) → ((n : ℕ) → line_in (d ∷ []) n ≡ 0) → (n : ℕ) → line_in (deeds ++ d ∷ []) n ≡ line_in deeds n

@@ -51,7 +51,7 @@ use Rattle.ad_maps.proofs.Frames.{worker_knows, worker_step_as, mover_step_as}
 use Rattle.ad_maps.proofs.Freeings.{batching-plan, changed_for, for-here, for-worker, for-cases, stands-after, unmap-brings, zeroed-after}
 use Rattle.ad_maps.proofs.Hands.{hand_regives, hand_stays, stance_stays}
 use Rattle.ad_maps.proofs.Machine.{holds_of, reached_after, lawful_of}
-use Rattle.ad_maps.proofs.MappingFrames.{ledger-same, mapped-says, mover_knows, plan-stays, words-stay}
+use Rattle.ad_maps.proofs.MappingFrames.{ledger-same, mapped-says, mappings-stay, mover_knows, same_currents, words-stay}
 use Rattle.ad_maps.proofs.Owners.{newest-give}
 use Rattle.ad_maps.proofs.Numbers.{frame-few, packed-small, region-few}
 use Rattle.ad_maps.proofs.Pinned.{gone-or}
@@ -62,6 +62,10 @@ use Rattle.ad_maps.proofs.Telling.{deeds-stay, told-none, told-unmap}
 -- ---- what an agent has to free
 
 module _ (shape : Shape) (s : St) (r : Kept shape s) where
+  -- it has to free what its view tells
+  frees-told : (a : Agent) (d e : Freeing) → d ≡ r.frees a → d ≡ e → FreeingStands r.state r.words.member r.lines r.places a e
+  frees-told a d e told is = subst (FreeingStands r.state r.words.member r.lines r.places a) (sym told ∙ is) (r.freed.each a)
+
   pub holds : Holds r.state
   holds = holds_of shape r.form r.state r.reached
 
@@ -136,25 +140,32 @@ freed-for j member lines places gives frees a f old mine = record {
   each_give = old.each_give;
 }
 
+-- an agent has loaded the word of its batch's next member
+member-loaded : (shape : Shape) (s : St) (r : Kept shape s) (a : Agent) (d : Freeing) (b k : ℕ) → d ≡ r.frees a → d ≡ freeing.Batch b k
+    → Freed r.state r.words.member r.lines r.places r.gives (changed_for r.frees a (member_found d (get_or s.words (135320 + (8 * b + k)) 0)))
+member-loaded shape s r a d b k told is =
+    let f : FreesFrom r.state r.words.member r.lines r.places a b k = frees-told shape s r a d (freeing.Batch b k) told is in
+    let few = frees-few shape s r a b k f in
+    let found = get_or s.words (135320 + (8 * b + k)) 0 in
+    let word : r.words.member b k ≡ found = sym (r.reads.1 (Member b k) (few, f.low)) in
+    let stands = found-stands r.state (holds shape s r) r.words.member r.lines r.places a b k found word (λ n listed. r.owing.some_line n b listed) f in
+    freed-for r.state r.words.member r.lines r.places r.gives r.frees a (member_found d found) r.freed
+    (subst (λ (e : Freeing). FreeingStands r.state r.words.member r.lines r.places a (member_found e found)) (sym is) stands)
+
 pub member_law : MemberLaw
 member_law shape s r id Spent b k at is = absurd (let z : ⊥ = cc in z)
 member_law shape s r id (Worker w h) b k at is =
     let m = worker_knows shape s r id w h at in
     let a : Agent = machine.Worker w in
-    let f : FreesFrom r.state r.words.member r.lines r.places a b k = subst (FreeingStands r.state r.words.member r.lines r.places a) (sym m.freeing ∙ is) (r.freed.each a) in
-    let few = frees-few shape s r a b k f in
     let i : ℕ = 135320 + (8 * b + k) in
     let found = get_or s.words i 0 in
-    let word : r.words.member b k ≡ found = sym (r.reads.1 (Member b k) (few, f.low)) in
     let g : Freeing = member_found h.freeing found in
-    let stands : FreeingStands r.state r.words.member r.lines r.places a g =
-    subst (λ (d : Freeing). FreeingStands r.state r.words.member r.lines r.places a (member_found d found)) (sym is) (found-stands r.state (holds shape s r) r.words.member r.lines r.places a b k found word (λ n listed. r.owing.some_line n b listed) f) in
     let h' : Hand = record { slot = h.slot; stance = h.stance; freeing = g; gives = h.gives; acts = h.acts } in
     let step = worker_step_as shape s r id w h h' at (set s.words i found) r.words r.state r.gives (changed_for r.frees a g)
     (rereads s.words r.words i r.reads) r.reached
     (told-none (machine.Worker w) r.reached.past (unmaps_in_acts h.acts) (unmaps_in_acts h.acts) (λ n. refl))
     r.mappings r.owing r.batching
-    (freed-for r.state r.words.member r.lines r.places r.gives r.frees a g r.freed stands)
+    (member-loaded shape s r a h.freeing b k m.freeing is)
     (sym (for-here r.frees a g)) (λ v ne. for-worker r.frees w g v ne) refl refl
     m.seat (λ v ne. refl)
     (record { slot = m.hand.slot; to_give = m.hand.to_give; stance = m.hand.stance; reads = m.hand.reads; falls = m.hand.falls })
@@ -162,23 +173,18 @@ member_law shape s r id (Worker w h) b k at is =
 member_law shape s r id (Mover q) b k at is =
     let m = mover_knows shape s r id q at in
     let a : Agent = machine.Mover in
-    let f : FreesFrom r.state r.words.member r.lines r.places a b k = subst (FreeingStands r.state r.words.member r.lines r.places a) (sym m.freeing ∙ is) (r.freed.each a) in
-    let few = frees-few shape s r a b k f in
     let i : ℕ = 135320 + (8 * b + k) in
     let found = get_or s.words i 0 in
-    let word : r.words.member b k ≡ found = sym (r.reads.1 (Member b k) (few, f.low)) in
     let g : Freeing = member_found q.freeing found in
-    let stands : FreeingStands r.state r.words.member r.lines r.places a g =
-    subst (λ (d : Freeing). FreeingStands r.state r.words.member r.lines r.places a (member_found d found)) (sym is) (found-stands r.state (holds shape s r) r.words.member r.lines r.places a b k found word (λ n listed. r.owing.some_line n b listed) f) in
     let step = mover_step_as shape s r id (record q { freeing = g }) m.mine (set s.words i found) r.words r.state r.places r.ledger r.lines r.gives (changed_for r.frees a g)
     (ap (λ (p : Plan). p.slots) m.is) (ap (λ (p : Plan). p.dealt) m.is) (ap (λ (p : Plan). p.back) m.is)
     (rereads s.words r.words i r.reads) r.reached
     (told-none machine.Mover r.reached.past (unmaps_in_deeds r.plan.deeds) (unmaps_in_deeds q.deeds) (deeds-stay q r.plan m.is))
-    (plan-stays shape s r q m.mappings q.batches q.passing g q.deeds) r.owing
+    (mappings-stay shape s r q m.mappings m.mappings.rooms) r.owing
     (batching-plan r.state.owed r.state.batch r.words.member q (record q { freeing = g }) refl refl refl m.batching)
-    (freed-for r.state r.words.member r.lines r.places r.gives r.frees a g r.freed stands)
+    (member-loaded shape s r a q.freeing b k m.freeing is)
     (λ v. refl) refl m.gives m.ledger_is m.lines_are (λ v. refl)
-    (λ v old. subst (λ (ns : List ℕ). HandStands shape r.state.world r.places r.ledger ns r.gives v (r.hands v)) (ap (λ (p : Plan). p.current) (sym m.is)) old) in
+    (same_currents shape s r q m.is) in
     record { kept = step.kept; state = step.state }
 
 -- ---- unmap
@@ -503,7 +509,7 @@ pub unmap_law : UnmapLaw
 unmap_law shape s r id Spent b k word at is none = absurd (let z : ⊥ = cc in z)
 unmap_law shape s r id (Worker w h) b k word at is none =
     let a : Agent = machine.Worker w in
-    let stands : FreeingStands r.state r.words.member r.lines r.places a (freeing.Found b k word) = subst (FreeingStands r.state r.words.member r.lines r.places a) (sym (worker_knows shape s r id w h at).freeing ∙ is) (r.freed.each a) in
+    let stands = frees-told shape s r a h.freeing (freeing.Found b k word) (worker_knows shape s r id w h at).freeing is in
     let known = unmap_known shape s r a b k word stands in
     let v : ℕ = word % 2 ^ 16 in
     let q : Place = place_at (get_or s.words (24 + v) 0) in
@@ -514,7 +520,7 @@ unmap_law shape s r id (Worker w h) b k word at is none =
     }) (machine.Unmap q.mapping a)) (sym is) (unmap-worker shape s r id w h b k known.0 v q at stands.0 known.1 none)
 unmap_law shape s r id (Mover o) b k word at is none =
     let a : Agent = machine.Mover in
-    let stands : FreeingStands r.state r.words.member r.lines r.places a (freeing.Found b k word) = subst (FreeingStands r.state r.words.member r.lines r.places a) (sym (mover_knows shape s r id o at).freeing ∙ is) (r.freed.each a) in
+    let stands = frees-told shape s r a o.freeing (freeing.Found b k word) (mover_knows shape s r id o at).freeing is in
     let known = unmap_known shape s r a b k word stands in
     let v : ℕ = word % 2 ^ 16 in
     let q : Place = place_at (get_or s.words (24 + v) 0) in
@@ -528,8 +534,8 @@ unmap_law shape s r id (Mover o) b k word at is none =
 pub unmap_found : (shape : Shape) (s : St) (r : Kept shape s) (id : ℕ) (view : Doing) (b k word : ℕ) → get_elem? s.views id ≡ some view → freeing_of view ≡ freeing.Found b k word
     → (m : ℕ) × UnmapKnown shape s r b k m (word % 2 ^ 16) (place_at (get_or s.words (24 + word % 2 ^ 16) 0))
 unmap_found shape s r id Spent b k word at is = absurd (let z : ⊥ = cc in z)
-unmap_found shape s r id (Worker w h) b k word at is = unmap_known shape s r (machine.Worker w) b k word (subst (FreeingStands r.state r.words.member r.lines r.places (machine.Worker w)) (sym (worker_knows shape s r id w h at).freeing ∙ is) (r.freed.each (machine.Worker w)))
-unmap_found shape s r id (Mover q) b k word at is = unmap_known shape s r machine.Mover b k word (subst (FreeingStands r.state r.words.member r.lines r.places machine.Mover) (sym (mover_knows shape s r id q at).freeing ∙ is) (r.freed.each machine.Mover))
+unmap_found shape s r id (Worker w h) b k word at is = unmap_known shape s r (machine.Worker w) b k word (frees-told shape s r (machine.Worker w) h.freeing (freeing.Found b k word) (worker_knows shape s r id w h at).freeing is)
+unmap_found shape s r id (Mover q) b k word at is = unmap_known shape s r machine.Mover b k word (frees-told shape s r machine.Mover q.freeing (freeing.Found b k word) (mover_knows shape s r id q at).freeing is)
 
 -- ---- give
 

@@ -10,16 +10,8 @@ use Rattle.ad_maps.specs.declared.view.Made.{Made}
 use Rattle.ad_maps.specs.Ledger.{opened_from, maps_in, all_made}
 use Rattle.ad_maps.specs.Seen.{looks_from, AddsRetires}
 use Rattle.ad_maps.specs.Steps.{made}
-use Rattle.ad_maps.proofs.Elements.{maps-push}
+use Rattle.ad_maps.proofs.Elements.{maps-append}
 use Rattle.ad_maps.proofs.MappingFrames.{ledger-same}
-
-maps-append : (xs ys : List Deed) → maps_in (xs ++ ys) ≡ maps_in xs ++ maps_in ys
-maps-append [] ys = refl
-maps-append (deed.Look f o ∷ xs) ys = maps-append xs ys
-maps-append (deed.Map m p ∷ xs) ys = ap (λ (gs : List Made). made m p ∷ gs) (maps-append xs ys)
-maps-append (deed.Switch m p ∷ xs) ys = maps-append xs ys
-maps-append (deed.Retire n line ∷ xs) ys = maps-append xs ys
-maps-append (deed.Unmap n ∷ xs) ys = maps-append xs ys
 
 no-maps : (f : ℕ) (os : List ℕ) → maps_in (looks_from f os) ≡ []
 no-maps f [] = refl
@@ -31,7 +23,7 @@ ledger-looks shape deeds f os = ap (λ (gs : List Made). opened_from 0 shape.mod
 
 -- a map makes its mapping
 pub ledger-map : (shape : Shape) (deeds : List Deed) (m : ℕ) (p : Place) → all_made shape (deeds ++ deed.Map m p ∷ []) ≡ all_made shape deeds ++ made m p ∷ []
-ledger-map shape deeds m p = ap (λ (gs : List Made). opened_from 0 shape.modules ++ gs) (maps-push deeds (deed.Map m p)) ∙ sym (append_assoc (opened_from 0 shape.modules) (maps_in deeds) (made m p ∷ []))
+ledger-map shape deeds m p = ap (λ (gs : List Made). opened_from 0 shape.modules ++ gs) (maps-append deeds (deed.Map m p ∷ [])) ∙ sym (append_assoc (opened_from 0 shape.modules) (maps_in deeds) (made m p ∷ []))
 
 -- a switch makes nothing
 pub ledger-switch : (shape : Shape) (deeds : List Deed) (m : ℕ) (p : Place) → all_made shape (deeds ++ deed.Switch m p ∷ []) ≡ all_made shape deeds

@@ -36,5 +36,6 @@ pub mod FreeLaws
 pub mod Freed
 pub mod Idle
 pub mod Retired
+pub mod OwingFrames
 pub mod OwingLaws
 pub mod Trials

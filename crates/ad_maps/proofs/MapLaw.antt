@@ -28,7 +28,7 @@ use Rattle.ad_maps.specs.MapPlace.{cell_word, cells_of, member_word}
 use Rattle.ad_maps.specs.Names.{Directory, wrote}
 use Rattle.ad_maps.specs.Rule.{St, Kept, AllMappings, IsAs, IsMapped, MappingStands, Mappings, OwnerStands, RegionStands, GiveStands, IsToGive, StageStands, IsFilled, AreAll, CurrentStands, IsMember}
 use Rattle.ad_maps.specs.Steps.{made, mapping}
-use Rattle.ad_maps.proofs.Elements.{maps-push, lines-push, retires-same}
+use Rattle.ad_maps.proofs.Elements.{maps-append, lines-push, retires-same}
 use Rattle.ad_maps.proofs.Batches.{listed-there}
 use Rattle.ad_maps.proofs.Frames.{mover_step}
 use Rattle.ad_maps.proofs.Freeings.{map-brings, freed-after, batching-plan}
@@ -232,7 +232,7 @@ map_law shape s r id q g at taken =
     (batching-plan r.state.owed r.state.batch r.words.member q q' refl refl (retires-same q.deeds (deed.Map g.of_module g.place) refl) k.batching)
     (freed-after r.state (holds_of shape r.form r.state r.reached) x may r.words.member r.words.member r.lines r.lines r.places places' (λ b i opened. refl) (λ j b is. row j b is) (map-brings r.state g.of_module n) r.gives r.frees r.freed)
     (ap (λ (p : Plan). p.freeing) k.is) (ap (λ (p : Plan). p.gives) k.is)
-    (ap (λ (gs : List Made). gs ++ g ∷ []) k.ledger_is ∙ (append_assoc (opened_from 0 shape.modules) (maps_in q.deeds) (g ∷ []) ∙ ap (λ (gs : List Made). opened_from 0 shape.modules ++ gs) (sym (maps-push q.deeds (deed.Map g.of_module g.place)))))
+    (ap (λ (gs : List Made). gs ++ g ∷ []) k.ledger_is ∙ (append_assoc (opened_from 0 shape.modules) (maps_in q.deeds) (g ∷ []) ∙ ap (λ (gs : List Made). opened_from 0 shape.modules ++ gs) (sym (maps-append q.deeds (deed.Map g.of_module g.place ∷ [])))))
     (λ i. k.lines_are i ∙ sym (lines-push q.deeds (deed.Map g.of_module g.place) (λ i. refl) i))
     (λ v. refl)
     (λ v. hand_stays shape w j.world r.places places' r.ledger ledger' r.plan.current q'.current r.gives v refl refl

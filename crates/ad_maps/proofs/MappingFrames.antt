@@ -22,8 +22,8 @@ use Rattle.ad_maps.specs.declared.view.Plan.{Plan}
 use Rattle.ad_maps.specs.declared.view.Doing.TheVariants.{Mover}
 use Rattle.ad_maps.specs.Ledger.{opened_from, maps_in, all_made, line_in}
 use Rattle.ad_maps.specs.MapPlace.{cell_word}
-use Rattle.ad_maps.specs.Rule.{St, Kept, IsMapped, WordsSay, Batching, Dealt, Mappings}
-use Rattle.ad_maps.proofs.Elements.{maps-push}
+use Rattle.ad_maps.specs.Rule.{St, Kept, HandStands, IsMapped, WordsSay, Batching, Dealt, Mappings}
+use Rattle.ad_maps.proofs.Elements.{maps-append}
 use Rattle.ad_maps.proofs.Machine.{holds_of}
 
 -- the words of a mapping, where its directory word, its frame's owner and its cells are as they were
@@ -52,11 +52,11 @@ mapped-says shape directory owner cell m p Gone apart h = absurd (apart refl)
 pub cell-past : (cells : List Cell) (base e : ℕ) → length cells ≤ e → cell_word cells base e ≡ 0
 cell-past cells base e l = get_or_past (list_map (local_word base) cells) e 0 (let same = length-map cells (local_word base) in omega arith)
 
--- the mappings stand as they do, where the plan changes in its rooms, its list and its seats alone
-pub mappings-stay : (shape : Shape) (s : St) (r : Kept shape s) (q : Plan) → Mappings shape r.state.world.mappings r.places r.ledger q r.gives r.words.current r.words.directory r.words.owner r.words.cell
-    → (rooms : List ℕ) → ((f : ℕ) → Contains rooms f → r.words.owner f ≡ 0) → (dealt : ℕ) (deeds : List Deed) (back : List Hand)
-    → Mappings shape r.state.world.mappings r.places r.ledger (record q { rooms = rooms; dealt = dealt; deeds = deeds; back = back }) r.gives r.words.current r.words.directory r.words.owner r.words.cell
-mappings-stay shape s r q m rooms free dealt deeds back = record {
+-- the mappings stand as they do, where the plan changes in its batch, its rooms, its list and its seats alone
+pub mappings-stay : (shape : Shape) (s : St) (r : Kept shape s) (q : Plan) {passing : Passing} {batches dealt : ℕ} {freeing : Freeing} {rooms : List ℕ} {deeds : List Deed} {back : List Hand}
+    → Mappings shape r.state.world.mappings r.places r.ledger q r.gives r.words.current r.words.directory r.words.owner r.words.cell → ((f : ℕ) → Contains rooms f → r.words.owner f ≡ 0)
+    → Mappings shape r.state.world.mappings r.places r.ledger (record q { passing = passing; batches = batches; freeing = freeing; dealt = dealt; rooms = rooms; deeds = deeds; back = back }) r.gives r.words.current r.words.directory r.words.owner r.words.cell
+mappings-stay shape s r q m free = record {
   each = m.each;
   each_made = m.each_made;
   wide = m.wide;
@@ -69,26 +69,6 @@ mappings-stay shape s r q m rooms free dealt deeds back = record {
   fresh = m.fresh;
   outs = m.outs;
   rooms = free;
-  stage = m.stage;
-}
-
--- nor does it say anything of them how far the mover's batch is, and what it frees
-pub plan-stays : (shape : Shape) (s : St) (r : Kept shape s) (q : Plan) → Mappings shape r.state.world.mappings r.places r.ledger q r.gives r.words.current r.words.directory r.words.owner r.words.cell
-    → (batches : ℕ) (passing : Passing) (freeing : Freeing) (deeds : List Deed)
-    → Mappings shape r.state.world.mappings r.places r.ledger (record q { batches = batches; passing = passing; freeing = freeing; deeds = deeds }) r.gives r.words.current r.words.directory r.words.owner r.words.cell
-plan-stays shape s r q m batches passing freeing deeds = record {
-  each = m.each;
-  each_made = m.each_made;
-  wide = m.wide;
-  each_current = m.each_current;
-  each_region = m.each_region;
-  each_owner = m.each_owner;
-  newest = m.newest;
-  each_give = m.each_give;
-  past_cells = m.past_cells;
-  fresh = m.fresh;
-  outs = m.outs;
-  rooms = m.rooms;
   stage = m.stage;
 }
 
@@ -110,9 +90,14 @@ mover_knows shape s r id q at =
     let k = r.each_seat id (Mover q) at in
     subst (MoverKnows shape s r id) (sym k.0) (record { is = refl; mine = k.1; mappings = r.mappings; ledger_is = r.ledger_is; lines_are = r.lines_are; batching = r.batching; freeing = r.tells.own; gives = r.tells.own_gives; dealt = r.dealt })
 
+-- what the workers' seats know is so where the same mappings are current
+pub same_currents : (shape : Shape) (s : St) (r : Kept shape s) (q : Plan) → q ≡ r.plan → (v : ℕ)
+    → HandStands shape r.state.world r.places r.ledger r.plan.current r.gives v (r.hands v) → HandStands shape r.state.world r.places r.ledger q.current r.gives v (r.hands v)
+same_currents shape s r q is v old = subst (λ (p : Plan). HandStands shape r.state.world r.places r.ledger p.current r.gives v (r.hands v)) (sym is) old
+
 -- a deed that makes no mapping leaves the ledger
 pub ledger-same : (shape : Shape) (deeds : List Deed) (d : Deed) → maps_in (d ∷ []) ≡ [] → all_made shape (deeds ++ d ∷ []) ≡ all_made shape deeds
-ledger-same shape deeds d none = ap (λ (gs : List Made). opened_from 0 shape.modules ++ gs) (maps-push deeds d ∙ (ap (λ (gs : List Made). maps_in deeds ++ gs) none ∙ append-nil (maps_in deeds)))
+ledger-same shape deeds d none = ap (λ (gs : List Made). opened_from 0 shape.modules ++ gs) (maps-append deeds (d ∷ []) ∙ (ap (λ (gs : List Made). maps_in deeds ++ gs) none ∙ append-nil (maps_in deeds)))
 
 -- a module of the table is one of the world
 pub module-there : (shape : Shape) (s : St) (r : Kept shape s) (m : ℕ) → m < length shape.modules → m < r.state.world.modules

@@ -3,6 +3,8 @@ use Rattle.std.proofs.Common.{◌≡◌, ⊎_elim, inl, inr, ℕ, ◌+◌, ◌*�
 use Rattle.std.specs.List.{Contains}
 use Rattle.std.specs.FinMap as map
 use Rattle.std.proofs.lemmas.Bool.{cases_Bool, cases_eq}
+use mathlib.Core.Option.{some}
+use lib.ListN.{get_elem?}
 use Rattle.ad_base.specs.declared.place.Place.{Place}
 use Rattle.ad_base.specs.Place.{base_of}
 use Rattle.ad_events.specs.declared.mapping.Mapping.{Mapping}
@@ -18,23 +20,18 @@ use Rattle.ad_maps.specs.declared.view.Plan.{Plan}
 use Rattle.ad_maps.specs.declared.view.Doing.TheVariants.{Mover}
 use Rattle.ad_maps.specs.Laws.{Stays, moved, LookLaw, TakeLaw, FillLaw}
 use Rattle.ad_maps.specs.MapPlace.{cell_word, cells_of, module_of_frame, IsShape}
-use Rattle.ad_maps.specs.Names.{Owner, Cell, wrote}
+use Rattle.ad_maps.specs.Names.{Owner, Cell, AreWords}
 use Rattle.ad_maps.specs.Ledger.{unmaps_in_deeds}
-use Rattle.ad_maps.specs.Rule.{St, Kept, HandStands, OwnerStands, IsToGive, StageStands, IsFilled}
-use Rattle.ad_maps.specs.Steps.{looking, taking, filling}
+use Rattle.ad_maps.specs.Rule.{St, Kept, OwnerStands, IsToGive, Mappings, StageStands, IsFilled}
+use Rattle.ad_maps.specs.Steps.{filling, looking, without}
 use Rattle.ad_maps.proofs.Elements.{cons-cases, without-from, lines-push, retires-same}
 use Rattle.ad_maps.proofs.Frames.{mover_step}
 use Rattle.ad_maps.proofs.Freeings.{batching-plan}
-use Rattle.ad_maps.proofs.MappingFrames.{mappings-stay, words-stay, mover_knows, ledger-same}
+use Rattle.ad_maps.proofs.MappingFrames.{mappings-stay, words-stay, mover_knows, ledger-same, same_currents}
 use Rattle.ad_maps.proofs.Numbers.{frame-few}
 use Rattle.ad_maps.proofs.Owners.{newest-take}
 use Rattle.ad_maps.proofs.Writes.{writes, rereads, row-here, row-column, row-else}
 use Rattle.ad_maps.proofs.Telling.{deeds-more, deeds-stay, told-none}
-
--- the hands stay as they were, where nothing was made and no current mapping changed
-same-hands : (shape : Shape) (s : St) (r : Kept shape s) (q : Plan) → q.current ≡ r.plan.current → (v : ℕ)
-    → HandStands shape r.state.world r.places r.ledger r.plan.current r.gives v (r.hands v) → HandStands shape r.state.world r.places r.ledger q.current r.gives v (r.hands v)
-same-hands shape s r q same v h = subst (λ (ns : List ℕ). HandStands shape r.state.world r.places r.ledger ns r.gives v (r.hands v)) (sym same) h
 
 -- ---- look
 
@@ -57,7 +54,7 @@ look_law shape s r id q f at few =
     (rereads s.words r.words i r.reads)
     r.reached
     (told-none machine.Mover r.reached.past (unmaps_in_deeds r.plan.deeds) (unmaps_in_deeds q'.deeds) (deeds-more q r.plan (deed.Look f found) k.is (λ n. refl)))
-    (mappings-stay shape s r q m q'.rooms free q.dealt q'.deeds q.back)
+    (mappings-stay shape s r q m free)
     r.owing
     (batching-plan r.state.owed r.state.batch r.words.member q q' refl refl (retires-same q.deeds (deed.Look f found) refl) k.batching)
     r.freed
@@ -65,7 +62,31 @@ look_law shape s r id q f at few =
     (k.ledger_is ∙ sym (ledger-same shape q.deeds (deed.Look f found) refl))
     (λ n. k.lines_are n ∙ sym (lines-push q.deeds (deed.Look f found) (λ n. refl) n))
     (λ v. refl)
-    (same-hands shape s r q' (ap (λ (p : Plan). p.current) k.is)) in
+    (same_currents shape s r q k.is) in
+    record { kept = step.kept; state = step.state }
+
+-- a frame's owner or its cells are others, and the plan changes in its stage and its rooms alone
+frame_step : (shape : Shape) (s : St) (r : Kept shape s) (id : ℕ) (q : Plan) → get_elem? s.views id ≡ some (Mover q) → (xs : List ℕ) (owner : ℕ → ℕ) (cell : ℕ → ℕ → ℕ) (d : Stage) (rooms : List ℕ)
+    → AreWords xs (record r.words { owner = owner; cell = cell })
+    → Mappings shape r.state.world.mappings r.places r.ledger (record q { stage = d; rooms = rooms }) r.gives r.words.current r.words.directory owner cell
+    → Stays shape s r (record { words = xs; homes = s.homes; views = set s.views id (Mover (record q { stage = d; rooms = rooms })) })
+frame_step shape s r id q at xs owner cell d rooms reads mappings =
+    let k = mover_knows shape s r id q at in
+    let q' : Plan = record q { stage = d; rooms = rooms } in
+    let step = mover_step shape s r id q' k.mine xs (record r.words { owner = owner; cell = cell }) r.state r.places r.ledger
+    (ap (λ (p : Plan). p.slots) k.is) (ap (λ (p : Plan). p.dealt) k.is) (ap (λ (p : Plan). p.back) k.is)
+    reads
+    r.reached
+    (told-none machine.Mover r.reached.past (unmaps_in_deeds r.plan.deeds) (unmaps_in_deeds q.deeds) (deeds-stay q r.plan k.is))
+    mappings
+    r.owing
+    (batching-plan r.state.owed r.state.batch r.words.member q q' refl refl refl k.batching)
+    r.freed
+    (ap (λ (p : Plan). p.freeing) k.is) (ap (λ (p : Plan). p.gives) k.is)
+    k.ledger_is
+    k.lines_are
+    (λ v. refl)
+    (same_currents shape s r q k.is) in
     record { kept = step.kept; state = step.state }
 
 -- ---- take
@@ -83,14 +104,9 @@ take_law shape s r id q g at idle may =
     let few = frame-few shape g.of_module g.place r.form may.form in
     let free : r.words.owner f ≡ 0 = m.rooms f may.room in
     let owner' : ℕ → ℕ = changed r.words.owner f n in
-    let q' : Plan = taking g q in
     -- a frame that a number above 0 owns is another
     let else : (h : ℕ) → 0 < r.words.owner h → owner' h ≡ r.words.owner h = λ h some. changed-else r.words.owner f n h (λ e. let same = ap r.words.owner e in omega arith) in
-    let step = mover_step shape s r id q' k.mine (set s.words (65560 + f) n) (wrote r.words (Owner f) n) r.state r.places r.ledger
-    (ap (λ (p : Plan). p.slots) k.is) (ap (λ (p : Plan). p.dealt) k.is) (ap (λ (p : Plan). p.back) k.is)
-    (writes s.words r.words (Owner f) n few r.reads)
-    r.reached
-    (told-none machine.Mover r.reached.past (unmaps_in_deeds r.plan.deeds) (unmaps_in_deeds q.deeds) (deeds-stay q r.plan k.is))
+    frame_step shape s r id q at (set s.words (65560 + f) n) owner' r.words.cell (stage.Taken g 0) (without f q.rooms) (writes s.words r.words (Owner f) n few r.reads)
     (record {
       each = λ j x there. (let old = m.each j x there in let some = numbered shape s r j x there in record {
         number = old.number;
@@ -126,15 +142,6 @@ take_law shape s r id q g at idle may =
         cells = λ e l. absurd (omega arith);
       };
     })
-    r.owing
-    (batching-plan r.state.owed r.state.batch r.words.member q q' refl refl refl k.batching)
-    r.freed
-    (ap (λ (p : Plan). p.freeing) k.is) (ap (λ (p : Plan). p.gives) k.is)
-    k.ledger_is
-    k.lines_are
-    (λ v. refl)
-    (same-hands shape s r q' (ap (λ (p : Plan). p.current) k.is)) in
-    record { kept = step.kept; state = step.state }
   where
     not-taken : (h o : ℕ) → OwnerStands r.state.world.mappings r.places (IsToGive r.gives) stage.Idle h o → OwnerStands r.state.world.mappings r.places (IsToGive r.gives) (stage.Taken g 0) h o
     not-taken h o c = ⊎_elim inl (λ d. ⊎_elim (λ t. inr (inl t)) (λ d. ⊎_elim (λ t. inr (inr (inl t))) (λ t. absurd t) d) d) c
@@ -151,12 +158,8 @@ fill_law shape s r id q g e at taken low =
     let x = cell_word (cells_of shape g.of_module) (base_of g.place) e in
     let cell' : ℕ → ℕ → ℕ = changed r.words.cell f (changed (r.words.cell f) e x) in
     let small : e < 512 = few_cells shape r.form g.of_module e now.form.for_module low in
-    let q' : Plan = record q { stage = stage.Taken g (e + 1) } in
-    let step = mover_step shape s r id q' k.mine (set s.words (65688 + (512 * f + e)) x) (wrote r.words (Cell f e) x) r.state r.places r.ledger
-    (ap (λ (p : Plan). p.slots) k.is) (ap (λ (p : Plan). p.dealt) k.is) (ap (λ (p : Plan). p.back) k.is)
-    (writes s.words r.words (Cell f e) x (few, small) r.reads)
-    r.reached
-    (told-none machine.Mover r.reached.past (unmaps_in_deeds r.plan.deeds) (unmaps_in_deeds q.deeds) (deeds-stay q r.plan k.is))
+    subst (λ (d : Stage). Stays shape s r (moved s id (Cell f e) (λ _. x) (Mover (record q { stage = filling d })))) (sym taken)
+    (frame_step shape s r id q at (set s.words (65688 + (512 * f + e)) x) r.words.owner cell' (stage.Taken g (e + 1)) q.rooms (writes s.words r.words (Cell f e) x (few, small) r.reads)
     (record {
       each = λ j y there. (let old = m.each j y there in let below = now.above _ old.listed in let frame = now.owns in record {
         number = old.number;
@@ -196,16 +199,7 @@ fill_law shape s r id q g e at taken low =
               | inr else ↦ row-column r.words.cell f e x f d else ∙ now.cells d (omega arith)
             ];
       };
-    })
-    r.owing
-    (batching-plan r.state.owed r.state.batch r.words.member q q' refl refl refl k.batching)
-    r.freed
-    (ap (λ (p : Plan). p.freeing) k.is) (ap (λ (p : Plan). p.gives) k.is)
-    k.ledger_is
-    k.lines_are
-    (λ v. refl)
-    (same-hands shape s r q' (ap (λ (p : Plan). p.current) k.is)) in
-    subst (λ (d : Stage). Stays shape s r (moved s id (Cell f e) (λ _. x) (Mover (record q { stage = filling d })))) (sym taken) (record { kept = step.kept; state = step.state })
+    }))
   where
     few_cells : (shape : Shape) → IsShape shape → (m e : ℕ) → m < length shape.modules → e < length (cells_of shape m) → e < 512
     few_cells shape form m e in_range low = let few = (form.each m in_range).few_cells in omega arith

@@ -1,7 +1,6 @@
 -- The mover's open, push and settle keep the rule.
-use Rattle.std.proofs.Common.{◌≡◌, ◌≢◌, ℕ, ◌+◌, ◌*◌, ◌-◌, ◌%◌, ◌^◌, ◌<◌, ◌≤◌, Bool, true, cond, eqb, eqb-true, List, length, get_or, set, refl, sym, ap, ◌∙◌, subst, inl, inr, arith}
+use Rattle.std.proofs.Common.{◌≡◌, ◌≢◌, ℕ, ◌+◌, ◌*◌, ◌-◌, ◌%◌, ◌^◌, ◌<◌, ◌≤◌, Bool, true, cond, eqb, eqb-true, length, get_or, set, refl, sym, ap, ◌∙◌, subst, inl, inr, arith}
 use Rattle.std.proofs.lemmas.Bool.{cases_eq, cases_Bool, eqb-false}
-use Rattle.ad_events.proofs.Functions.{changed-here, changed-else}
 use Rattle.ad_events.specs.Owed as owing
 use Rattle.ad_events.specs.Reclaim as machine
 use Rattle.ad_events.specs.Reclaim.{Agent}
@@ -25,13 +24,14 @@ use Rattle.ad_maps.specs.declared.view.Passing.TheVariants as passing
 use Rattle.ad_maps.specs.Ledger.{retires_in, unmaps_in_deeds}
 use Rattle.ad_maps.specs.Names.{Count, Slot, wrote}
 use Rattle.ad_maps.specs.Laws.{Adds, moved, OpenLaw, PushLaw, SettleLaw}
-use Rattle.ad_maps.specs.Rule.{FreeingStands, HandStands, PassingStands, IsPassing, listed_in}
+use Rattle.ad_maps.specs.Rule.{FreeingStands, PassingStands, IsPassing, listed_in}
 use Rattle.ad_maps.specs.Steps.{begins, next_slot, opened, pushed_with, settles, settling}
 use Rattle.ad_maps.proofs.Batches.{few-batches, few-retired, freed-same}
 use Rattle.ad_maps.proofs.Frames.{mover_step, mover_step_as}
 use Rattle.ad_maps.proofs.Freeings.{begins-freeing, changed_for, freed-else, open-brings, push-brings}
 use Rattle.ad_maps.proofs.Machine.{holds_of, reached_after, lawful_of}
-use Rattle.ad_maps.proofs.MappingFrames.{mover_knows, plan-stays}
+use Rattle.ad_maps.proofs.MappingFrames.{mappings-stay, mover_knows, same_currents}
+use Rattle.ad_maps.proofs.OwingFrames.{count_changed, slot_changed}
 use Rattle.ad_maps.proofs.Writes.{writes}
 use Rattle.ad_maps.proofs.Telling.{deeds-stay, told-quiet}
 
@@ -60,25 +60,9 @@ open_law shape s r id q k at is =
     (writes s.words r.words (Count b) n few r.reads)
     (reached_after shape r.state x r.reached may)
     (told-quiet shape r.state r.reached machine.Mover x may (unmaps_in_deeds r.plan.deeds) (unmaps_in_deeds q.deeds) (λ c n. refl) (deeds-stay q r.plan m.is))
-    (plan-stays shape s r q m.mappings b (passing.Settled 0) q.freeing q.deeds)
-    (record {
-      slots = r.owing.slots;
-      seats = r.owing.seats;
-      each_slot = r.owing.each_slot;
-      each_count = λ c now.
-          elim (cases_eq c b) [
-            | inl e ↦ changed-here r.words.count b n c e ∙ (ap (λ (i : ℕ). i * 2 ^ 32) (sym slots) ∙ (sym (open-count_new owed holds.owed may) ∙ ap (count_of j.owed) (sym (e ∙ same))))
-            | inr ne ↦
-                let old : IsOpened owed c = record { positive = now.positive; within = let l = now.within in omega arith } in
-                changed-else r.words.count b n c ne ∙ (r.owing.each_count c old ∙ sym (open-count owed holds.owed may c old))
-          ];
-      no_count = λ c l. changed-else r.words.count b n c (λ e. omega arith) ∙ r.owing.no_count c (omega arith);
-      each_listed = r.owing.each_listed;
-      each_member = r.owing.each_member;
-      once = r.owing.once;
-      each_line = r.owing.each_line;
-      some_line = r.owing.some_line;
-    })
+    (mappings-stay shape s r q m.mappings m.mappings.rooms)
+    (count_changed shape s r j.owed b n refl refl (omega arith) (omega arith) (λ t. refl) (ap (λ (i : ℕ). i * 2 ^ 32) (sym slots) ∙ (sym (open-count_new owed holds.owed may) ∙ ap (count_of j.owed) (sym same)))
+    (λ c now ne. let few : c ≤ last_batch owed = (let l = now.within in omega arith) in (few, open-count owed holds.owed may c (record { positive = now.positive; within = few }))))
     (record {
       number = omega arith;
       stands = record { opened = omega arith; slot = omega arith; before = λ t l. absurd (omega arith); here = ahead 0 (omega arith); behind = λ t l low. ahead t low };
@@ -93,7 +77,7 @@ open_law shape s r id q k at is =
     m.ledger_is
     m.lines_are
     (λ v. refl)
-    (λ v old. subst (λ (ns : List ℕ). HandStands shape r.state.world r.places r.ledger ns r.gives v (r.hands v)) (ap (λ (p : Plan). p.current) (sym m.is)) old) in
+    (same_currents shape s r q m.is) in
     record { may = may; lawful = lawful_of shape r.form r.state r.reached x may; kept = step.kept; state = step.state }
 
 -- ---- push
@@ -133,25 +117,8 @@ push_law shape s r id q slot at is =
     (writes s.words r.words (Slot slot) n few r.reads)
     (reached_after shape r.state x r.reached may)
     (told-quiet shape r.state r.reached machine.Mover x may (unmaps_in_deeds r.plan.deeds) (unmaps_in_deeds q.deeds) (λ c n. refl) (deeds-stay q r.plan m.is))
-    (plan-stays shape s r q m.mappings q.batches (passing.Pushed slot (found % 2 ^ 32)) q.freeing q.deeds)
-    (record {
-      slots = same_slots ∙ r.owing.slots;
-      seats = r.owing.seats;
-      each_slot = λ t l.
-          elim (cases_eq t slot) [
-            | inl e ↦ changed-here r.words.slot slot n t e ∙ (count ∙ ap (slot_word j.owed) (sym e))
-            | inr ne ↦ changed-else r.words.slot slot n t ne ∙ (r.owing.each_slot t l ∙ sym (push-word_other owed holds.owed slot may t ne))
-          ];
-      each_count = λ c now. (
-          let before : IsOpened owed c = record { positive = now.positive; within = let l = now.within in omega arith } in
-          r.owing.each_count c before ∙ sym (push-count owed holds.owed slot may c before));
-      no_count = λ c l. r.owing.no_count c (omega arith);
-      each_listed = r.owing.each_listed;
-      each_member = r.owing.each_member;
-      once = r.owing.once;
-      each_line = r.owing.each_line;
-      some_line = r.owing.some_line;
-    })
+    (mappings-stay shape s r q m.mappings m.mappings.rooms)
+    (slot_changed shape s r j.owed slot n same_slots refl last (λ c before. push-count owed holds.owed slot may c before) count (λ t ne. push-word_other owed holds.owed slot may t ne))
     (record {
       number = m.batching.number ∙ sym last;
       stands = record {
@@ -172,7 +139,7 @@ push_law shape s r id q slot at is =
     m.ledger_is
     m.lines_are
     (λ v. refl)
-    (λ v old. subst (λ (ns : List ℕ). HandStands shape r.state.world r.places r.ledger ns r.gives v (r.hands v)) (ap (λ (p : Plan). p.current) (sym m.is)) old) in
+    (same_currents shape s r q m.is) in
     subst (λ (d : Passing). Adds shape s r (moved s id (Slot slot) (λ i. (i + 2 ^ 32) % 2 ^ 64) (Mover (record q { passing = pushed_with (found % 2 ^ 32) d }))) x) (sym is)
     (record { may = may; lawful = lawful_of shape r.form r.state r.reached x may; kept = step.kept; state = step.state })
   where
@@ -227,23 +194,9 @@ settle_law shape s r id q slot inside at is free =
     (writes s.words r.words (Count b) n few r.reads)
     (reached_after shape r.state x r.reached may)
     (told-quiet shape r.state r.reached machine.Mover x may (unmaps_in_deeds r.plan.deeds) (unmaps_in_deeds q.deeds) (λ c n. refl) (deeds-stay q r.plan m.is))
-    (plan-stays shape s r q m.mappings q.batches (next_slot q.slots slot) f q.deeds)
-    (record {
-      slots = r.owing.slots;
-      seats = r.owing.seats;
-      each_slot = r.owing.each_slot;
-      each_count = λ c now.
-          elim (cases_eq c b) [
-            | inl e ↦ changed-here r.words.count b n c e ∙ (count ∙ ap (count_of j.owed) (sym (e ∙ number)))
-            | inr ne ↦ changed-else r.words.count b n c ne ∙ (r.owing.each_count c (record { positive = now.positive; within = let l = now.within in omega arith }) ∙ sym (settle-count_other owed holds.owed slot may c now.positive (λ e. ne (e ∙ sym number))))
-          ];
-      no_count = λ c l. changed-else r.words.count b n c (λ e. omega arith) ∙ r.owing.no_count c (omega arith);
-      each_listed = r.owing.each_listed;
-      each_member = r.owing.each_member;
-      once = r.owing.once;
-      each_line = r.owing.each_line;
-      some_line = r.owing.some_line;
-    })
+    (mappings-stay shape s r q m.mappings m.mappings.rooms)
+    (count_changed shape s r j.owed b n refl refl (omega arith) (omega arith) (λ t. refl) (count ∙ ap (count_of j.owed) (sym number))
+    (λ c now ne. ((let l = now.within in omega arith), settle-count_other owed holds.owed slot may c now.positive (λ e. ne (e ∙ sym number)))))
     (record {
       number = number ∙ sym last;
       stands = next-stands j.owed retired q.slots slot at_slot (λ t l. old t (λ e. omega arith) ∙ stands.before t l) here (λ t l low. old t (λ e. omega arith) ∙ stands.behind t l low)
@@ -259,7 +212,7 @@ settle_law shape s r id q slot inside at is free =
     m.ledger_is
     m.lines_are
     (λ v. refl)
-    (λ v old. subst (λ (ns : List ℕ). HandStands shape r.state.world r.places r.ledger ns r.gives v (r.hands v)) (ap (λ (p : Plan). p.current) (sym m.is)) old) in
+    (same_currents shape s r q m.is) in
     subst (λ (d : Passing). Adds shape s r (moved s id (Count b) (λ i. (i + (2 ^ 64 - settles inside)) % 2 ^ 64) (Mover (settling q found d))) x) (sym is)
     (record { may = may; lawful = lawful_of shape r.form r.state r.reached x may; kept = step.kept; state = step.state })
   where

@@ -1,7 +1,6 @@
 -- A worker's pay keeps the rule.
 use Rattle.std.proofs.Common.{◌≡◌, ℕ, ◌+◌, ◌-◌, ◌%◌, ◌^◌, ◌<◌, Bool, eqb, eqb-true, get_or, set, refl, sym, ap, ◌∙◌, subst, inl, inr, arith}
-use Rattle.std.proofs.lemmas.Bool.{cases_eq, cases_Bool, eqb-false}
-use Rattle.ad_events.proofs.Functions.{changed-here, changed-else}
+use Rattle.std.proofs.lemmas.Bool.{cases_Bool, eqb-false}
 use Rattle.ad_events.specs.Owed as owing
 use Rattle.ad_events.specs.Reclaim as machine
 use Rattle.ad_events.specs.Reclaim.{Agent}
@@ -26,6 +25,7 @@ use Rattle.ad_maps.proofs.Batches.{batching-worker, few-batches}
 use Rattle.ad_maps.proofs.Frames.{worker_knows, worker_step_as}
 use Rattle.ad_maps.proofs.Freeings.{begins-freeing, changed_for, for-here, for-worker, freed-else}
 use Rattle.ad_maps.proofs.Machine.{holds_of, reached_after, lawful_of}
+use Rattle.ad_maps.proofs.OwingFrames.{count_changed}
 use Rattle.ad_maps.proofs.WorkerLaws.{leaves-seat, leaves-stands}
 use Rattle.ad_maps.proofs.Writes.{writes}
 use Rattle.ad_maps.proofs.Telling.{told-quiet}
@@ -69,22 +69,8 @@ pay_law shape s r id w slot paid last gives acts at =
     (reached_after shape r.state x r.reached may)
     (told-quiet shape r.state r.reached (machine.Worker w) x may (unmaps_in_acts acts) (unmaps_in_acts acts) (λ c n. refl) (λ n. refl))
     r.mappings
-    (record {
-      slots = slots-after owed (owing.Pay w) may ∙ r.owing.slots;
-      seats = seats-after owed (owing.Pay w) may ∙ r.owing.seats;
-      each_slot = λ t l. r.owing.each_slot t l ∙ sym (pay-word owed w slot paid last is t);
-      each_count = λ c now.
-          elim (cases_eq c b) [
-            | inl e ↦ changed-here r.words.count b n c e ∙ (count ∙ ap (count_of j.owed) (sym e))
-            | inr ne ↦ changed-else r.words.count b n c ne ∙ (r.owing.each_count c (record { positive = now.positive; within = let l = now.within in omega arith }) ∙ sym (pay-count_else owed holds.owed w slot paid last is c now.positive ne))
-          ];
-      no_count = λ c l. changed-else r.words.count b n c (λ e. let within = opened.within in omega arith) ∙ r.owing.no_count c (omega arith);
-      each_listed = r.owing.each_listed;
-      each_member = r.owing.each_member;
-      once = r.owing.once;
-      each_line = r.owing.each_line;
-      some_line = r.owing.some_line;
-    })
+    (count_changed shape s r j.owed b n (slots-after owed (owing.Pay w) may) (seats-after owed (owing.Pay w) may) (omega arith) (let within = opened.within in omega arith) (pay-word owed w slot paid last is) count
+    (λ c now ne. ((let l = now.within in omega arith), pay-count_else owed holds.owed w slot paid last is c now.positive ne)))
     (batching-worker shape s r x may (λ e. let z : ⊥ = cc in z) (slots-after owed (owing.Pay w) may))
     (freed-else r.state holds x may r.words.member r.words.member r.lines r.lines r.places r.places (λ c i there. refl) (λ i c listed. refl) a refl r.gives r.frees f r.freed freed)
     (sym (for-here r.frees a f))

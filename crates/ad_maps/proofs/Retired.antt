@@ -15,6 +15,7 @@ use Rattle.ad_maps.specs.Steps.{Sat, but, but_all, has_freed, has_given, is_at_r
 use Rattle.ad_maps.specs.Private.Handles.{listed_all, listed_to, passed_on, plan_of, HasRoom, IsIdle, Passes}
 use Rattle.ad_maps.proofs.Elements.{but-to, cons-here, cons-later}
 use Rattle.ad_maps.proofs.Freed.{added-twice}
+use Rattle.ad_maps.proofs.Idle.{goes-idle}
 
 -- ---- listing
 
@@ -124,19 +125,7 @@ module _ (me0 me1 me2 me3 : Sat) (slots batches : ℕ) (line : ℕ) (gs : List M
   room-there g c = subst (λ (m : Sat). HasRoom (plan_of m.0)) two room g c
 
   pub retired-idle : IsIdle me3 slots (batches + 1)
-  retired-idle = subst (λ (m : Sat). IsIdle m slots (batches + 1)) (sym now) (record {
-    mover = refl;
-    stage = idle.stage;
-    passing = refl;
-    freed = idle.freed;
-    given = idle.given;
-    room = room-there;
-    slots_are = idle.slots_are;
-    some_slot = idle.some_slot;
-    few_slots = idle.few_slots;
-    batches_are = ap (λ (n : ℕ). n + 1) idle.batches_are;
-    back = idle.back;
-  })
+  retired-idle = goes-idle me0 slots batches idle me3 (batches + 1) now idle.stage refl (ap (λ (n : ℕ). n + 1) idle.batches_are) room-there
 
   pub retired-rest : is_at_rest me3.0 ≡ true
   retired-rest = ap (λ (m : Sat). is_at_rest m.0) now ∙ (λ i. is_idle (idle.stage i) && (has_freed (idle.freed i) && has_given (idle.given i)))

@@ -53,7 +53,7 @@ with_seats shape s r views seater dealt back q same know seated dealt_is = recor
     reads = r.reads;
     reached = r.reached;
     mappings = subst (λ (p : Plan). Mappings shape r.state.world.mappings r.places r.ledger p r.gives r.words.current r.words.directory r.words.owner r.words.cell) same
-        (mappings-stay shape s r r.plan r.mappings r.plan.rooms r.mappings.rooms dealt r.plan.deeds back);
+        (mappings-stay shape s r r.plan r.mappings r.mappings.rooms);
     owing = r.owing;
     batching = subst (Batching r.state.owed r.state.batch r.words.member) same (batching-plan r.state.owed r.state.batch r.words.member r.plan (record r.plan { dealt = dealt; back = back }) refl refl refl r.batching);
     freed = r.freed;

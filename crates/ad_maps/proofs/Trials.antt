@@ -1,5 +1,5 @@
 -- What the tests keep of a table and its mover, through a move and a retire.
-use Rattle.std.proofs.Common.{◌≡◌, ◌≢◌, ⊎_elim, inl, inr, ℕ, zero, suc, ◌+◌, ◌<◌, List, [], ◌∷◌, ◌++◌, length, get_or, set, IfSome, refl, sym, ap, ◌∙◌, subst, arith}
+use Rattle.std.proofs.Common.{◌≡◌, ◌≢◌, ⊎_elim, inl, inr, ℕ, zero, suc, ◌+◌, ◌<◌, ◌≤◌, List, [], ◌∷◌, ◌++◌, length, get_or, set, IfSome, refl, sym, ap, ◌∙◌, subst, arith}
 use Rattle.std.specs.List.{slice_get, Contains}
 use Rattle.atomic_table.specs.Seated.{TableId}
 use Rattle.ad_maps.specs.Rows.{AreAllSeats}
@@ -22,20 +22,26 @@ use Rattle.ad_maps.proofs.Ledgers.{all-after_looks, all-after_map, all-after_ret
 pub none-out : (all : List Made) → AreOuts all []
 none-out all = record { each = λ g c. absurd (none-in g c); differ = λ i j d before inside. absurd (omega arith) }
 
--- the mover has looked at frames, and the number goes by
-pub may-look : (maps : OpenMaps) (mover mover' : MoverSeen) (away : List Made) (number first : ℕ) (owners : List ℕ) → MayMove maps mover away number
-    → mover'.table ≡ mover.table → mover'.current ≡ mover.current → mover'.outs ≡ mover.outs → mover'.deeds ≡ mover.deeds ++ looks_from first owners → MayMove maps mover' away (number + 1)
-may-look maps mover mover' away number first owners may table current outs deeds = record {
+-- the same mappings are current and no other was made, and the number may rise
+may-stay : (maps : OpenMaps) (mover mover' : MoverSeen) (away away' : List Made) (number number' : ℕ) → MayMove maps mover away number → mover'.table ≡ mover.table → mover'.current ≡ mover.current → number ≤ number'
+    → ((f : Made → ℕ) (n : ℕ) → ((x : Made) → Contains (all_made maps.shape mover.deeds) x → f x < n) → (x : Made) → Contains (all_made maps.shape mover'.deeds) x → f x < n) → AreOuts mover'.outs away' → MayMove maps mover' away' number'
+may-stay maps mover mover' away away' number number' may table current rises made_before outs = record {
   table = table ∙ may.table;
   frames = may.frames;
   pages = may.pages;
   cells = may.cells;
   currents = ap length current ∙ may.currents;
   current = λ m low. (let same = ap (λ (ns : List ℕ). get_or ns m 0) current in let below = may.current m low in omega arith);
-  above = all-after_looks (λ x. x.place.mapping < number + 1) maps.shape mover.deeds mover'.deeds first owners deeds (λ x c. let l = may.above x c in omega arith);
-  region = all-after_looks (λ x. x.place.region < 2 + (number + 1)) maps.shape mover.deeds mover'.deeds first owners deeds (λ x c. let l = may.region x c in omega arith);
-  outs = subst (λ (gs : List Made). AreOuts gs away) (sym outs) may.outs;
+  above = λ x c. (let l = made_before (λ y. y.place.mapping) number may.above x c in omega arith);
+  region = λ x c. (let l = made_before (λ y. y.place.region) (2 + number) may.region x c in omega arith);
+  outs = outs;
 }
+
+-- the mover has looked at frames, and the number goes by
+pub may-look : (maps : OpenMaps) (mover mover' : MoverSeen) (away : List Made) (number first : ℕ) (owners : List ℕ) → MayMove maps mover away number
+    → mover'.table ≡ mover.table → mover'.current ≡ mover.current → mover'.outs ≡ mover.outs → mover'.deeds ≡ mover.deeds ++ looks_from first owners → MayMove maps mover' away (number + 1)
+may-look maps mover mover' away number first owners may table current outs deeds = may-stay maps mover mover' away away number (number + 1) may table current (omega arith)
+    (λ f n old. all-after_looks (λ x. f x < n) maps.shape mover.deeds mover'.deeds first owners deeds old) (subst (λ (gs : List Made). AreOuts gs away) (sym outs) may.outs)
 
 -- one mapping more is out
 outs-more : (all all' away away' : List Made) (out : Made) → all' ≡ all ++ out ∷ [] → away' ≡ away ++ out ∷ [] → ((g : Made) → Contains all g → g.place.mapping ≢ out.place.mapping) → AreOuts all away → AreOuts all' away'
@@ -75,17 +81,8 @@ module _ (maps : OpenMaps) (mover one two three : MoverSeen) (away away' : List 
 -- the mover has retired what was out
 pub may-retired : (maps : OpenMaps) (mover mover' : MoverSeen) (away away' : List Made) (line : ℕ) → away' ≡ [] → mover'.table ≡ mover.table → mover'.current ≡ mover.current → AddsRetires away line mover.deeds mover'.deeds
     → (number : ℕ) → MayMove maps mover away number → MayMove maps mover' away' number
-may-retired maps mover mover' away away' line empty table current adds number may = record {
-  table = table ∙ may.table;
-  frames = may.frames;
-  pages = may.pages;
-  cells = may.cells;
-  currents = ap length current ∙ may.currents;
-  current = λ m low. (let same = ap (λ (ns : List ℕ). get_or ns m 0) current in let below = may.current m low in omega arith);
-  above = all-after_retires (λ x. x.place.mapping < number) maps.shape away line mover.deeds mover'.deeds adds may.above;
-  region = all-after_retires (λ x. x.place.region < 2 + number) maps.shape away line mover.deeds mover'.deeds adds may.region;
-  outs = subst (AreOuts mover'.outs) (sym empty) (none-out mover'.outs);
-}
+may-retired maps mover mover' away away' line empty table current adds number may = may-stay maps mover mover' away away' number number may table current (omega arith)
+    (λ f n old. all-after_retires (λ x. f x < n) maps.shape away line mover.deeds mover'.deeds adds old) (subst (AreOuts mover'.outs) (sym empty) (none-out mover'.outs))
 
 -- all seats of a table of two workers
 pub two-seats : (table : TableId) (first second : SeatSeen) → first.table ≡ table → first.worker ≡ 0 → second.table ≡ table → second.worker ≡ 1 → AreAllSeats table 2 (first ∷ second ∷ [])

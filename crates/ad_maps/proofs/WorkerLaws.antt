@@ -1,19 +1,16 @@
 -- A worker's steps keep the rule.
-use Rattle.std.proofs.Common.{◌≡◌, ◌≢◌, ℕ, ◌+◌, ◌*◌, ◌-◌, ◌/◌, ◌%◌, ◌^◌, ◌<◌, Bool, true, false, cond, List, [], ◌∷◌, ◌++◌, length, get_or, set, IsSome, refl, sym, ap, ◌∙◌, subst, inl, inr, arith}
+use Rattle.std.proofs.Common.{◌≡◌, ℕ, ◌+◌, ◌*◌, ◌-◌, ◌/◌, ◌%◌, ◌^◌, ◌<◌, Bool, true, false, cond, List, [], ◌∷◌, ◌++◌, length, get_or, set, IsSome, refl, sym, ap, ◌∙◌, subst, arith}
 use Rattle.std.specs.Prelude.{nat_lt}
 use Rattle.std.proofs.Math.Nat.{mod-lt}
-use Rattle.std.proofs.lemmas.Bool.{cases_eq}
 use mathlib.Core.Option.{some}
 use lib.ListN.{get_elem?}
 use Rattle.ad_base.specs.declared.place.Place.{Place}
-use Rattle.ad_events.specs.Functions.{changed}
 use Rattle.ad_events.specs.World.{EventWorld}
 use Rattle.ad_events.specs.Owed as owing
-use Rattle.ad_events.specs.Owed.{seat_at, pushed_on, inside_of, count_of, last_batch, batch_at, to_pay, IsOpened, MayEnter}
+use Rattle.ad_events.specs.Owed.{seat_at, pushed_on, to_pay, MayEnter}
 use Rattle.ad_events.specs.OwedLaws.{slot_word}
 use Rattle.ad_events.specs.Reclaim as machine
 use Rattle.ad_events.specs.Reclaim.{ReclaimState}
-use Rattle.ad_events.proofs.Functions.{changed-here, changed-else}
 use Rattle.ad_events.proofs.OwedLaws.{words_fit}
 use Rattle.ad_events.proofs.OwedReads.{slots-after, seats-after, last-after, enter-seat, enter-seat_other, leave-batch, leave-seat, leave-seat_other}
 use Rattle.ad_events.proofs.OwedWords.{word-high, enter-word, enter-word_other, leave-word, leave-word_other}
@@ -28,13 +25,14 @@ use Rattle.ad_maps.specs.declared.view.Doing.TheVariants.{Worker}
 use Rattle.ad_maps.specs.Names.{Slot, wrote}
 use Rattle.ad_maps.specs.Ledger.{act_unmaps, reads_of, unmaps_in_acts}
 use Rattle.ad_maps.specs.Laws.{Stays, EnterLaw, PageLaw, CellLaw, LeaveLaw}
-use Rattle.ad_maps.specs.Rule.{St, Kept, Owing, StanceStands, seat_of}
+use Rattle.ad_maps.specs.Rule.{St, Kept, StanceStands, seat_of}
 use Rattle.ad_maps.specs.Steps.{hand, left_with}
 use Rattle.ad_maps.proofs.Batches.{batching-worker, few-batches, freed-same}
 use Rattle.ad_maps.proofs.Frames.{worker_knows, worker_step}
 use Rattle.ad_maps.proofs.Freeings.{enter-brings, leave-brings}
 use Rattle.ad_maps.proofs.Hands.{hand_stays, own_act}
 use Rattle.ad_maps.proofs.Machine.{holds_of, reached_after, lawful_of}
+use Rattle.ad_maps.proofs.OwingFrames.{slot_changed}
 use Rattle.ad_maps.proofs.Writes.{writes, rereads}
 use Rattle.ad_maps.proofs.Telling.{count-same, told-none, told-quiet}
 
@@ -68,27 +66,6 @@ slot_known shape s r w slot is =
       fits = (words_fit r.state.owed h).words (let most = few-batches shape s r in omega arith) slot inside;
     }
 
--- the half of the rule that concerns owing, where a slot's word has changed as the machine's slot has, and no batch has
-pub slot_changed : (shape : Shape) (s : St) (r : Kept shape s) (owed : owing.State) (slot x : ℕ) → length owed.slots ≡ length r.state.owed.slots → length owed.seats ≡ length r.state.owed.seats
-    → ((b : ℕ) → batch_at owed b ≡ batch_at r.state.owed b) → last_batch owed ≡ last_batch r.state.owed → x ≡ slot_word owed slot → ((t : ℕ) → t ≢ slot → slot_word owed t ≡ slot_word r.state.owed t)
-    → Owing shape owed r.state.batch r.places r.lines (changed r.words.slot slot x) r.words.count r.words.member
-slot_changed shape s r owed slot x slots seats batches last here else = record {
-  slots = slots ∙ r.owing.slots;
-  seats = seats ∙ r.owing.seats;
-  each_slot = λ t l.
-      elim (cases_eq t slot) [
-        | inl e ↦ changed-here r.words.slot slot x t e ∙ (here ∙ ap (slot_word owed) (sym e))
-        | inr ne ↦ changed-else r.words.slot slot x t ne ∙ (r.owing.each_slot t l ∙ sym (else t ne))
-      ];
-  each_count = λ b opened. r.owing.each_count b (record { positive = opened.positive; within = let l = opened.within in omega arith }) ∙ sym (ap (λ (c : owing.Batch). c.count) (batches b));
-  no_count = λ b l. r.owing.no_count b (omega arith);
-  each_listed = r.owing.each_listed;
-  each_member = r.owing.each_member;
-  once = r.owing.once;
-  each_line = r.owing.each_line;
-  some_line = r.owing.some_line;
-}
-
 -- ---- enter
 
 pub enter_law : EnterLaw
@@ -113,7 +90,7 @@ enter_law shape s r id w slot gives acts at =
     (reached_after shape r.state x r.reached may)
     (told-quiet shape r.state r.reached (machine.Worker w) x may (unmaps_in_acts acts) (unmaps_in_acts (acts ++ act.Enter ∷ [])) (λ c n. refl) (λ n. count-same (act_unmaps n) acts act.Enter refl))
     r.mappings
-    (slot_changed shape s r j.owed slot n (slots-after owed (owing.Enter w slot) may) (seats-after owed (owing.Enter w slot) may) (λ b. refl) refl word (λ u ne. enter-word_other owed w slot may u ne))
+    (slot_changed shape s r j.owed slot n (slots-after owed (owing.Enter w slot) may) (seats-after owed (owing.Enter w slot) may) refl (λ b opened. refl) word (λ u ne. enter-word_other owed w slot may u ne))
     (batching-worker shape s r x may (λ e. let f : ⊥ = cc in f) (slots-after owed (owing.Enter w slot) may))
     (freed-same shape s r x may (enter-brings r.state w slot))
     refl
@@ -160,7 +137,7 @@ leave_law shape s r id w slot entry m p gives acts at =
     (reached_after shape r.state x r.reached may)
     (told-quiet shape r.state r.reached (machine.Worker w) x may (unmaps_in_acts acts) (unmaps_in_acts (acts ++ act.Leave ∷ [])) (λ c n. refl) (λ n. count-same (act_unmaps n) acts act.Leave refl))
     r.mappings
-    (slot_changed shape s r j.owed slot n (slots-after owed (owing.Leave w) inside) (seats-after owed (owing.Leave w) inside) same (let l = last in omega arith) word (λ u ne. leave-word_other owed w slot entry is u ne))
+    (slot_changed shape s r j.owed slot n (slots-after owed (owing.Leave w) inside) (seats-after owed (owing.Leave w) inside) (let l = last in omega arith) (λ b opened. ap (λ (c : owing.Batch). c.count) (same b)) word (λ u ne. leave-word_other owed w slot entry is u ne))
     (batching-worker shape s r x may (λ e. let f : ⊥ = cc in f) (slots-after owed (owing.Leave w) inside))
     (freed-same shape s r x may (leave-brings r.state w))
     refl

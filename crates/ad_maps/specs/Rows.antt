@@ -4,6 +4,7 @@ use Rattle.atomic_table.specs.Seated.{TableId}
 use Rattle.ad_base.specs.declared.ledger.Kind.TheVariants.{Code}
 use Rattle.ad_base.specs.declared.ledger.Row.{Row}
 use Rattle.ad_base.specs.declared.place.Place.{Place}
+use Rattle.ad_maps.specs.declared.shape.Shape.{Shape}
 use Rattle.ad_maps.specs.declared.view.Act.TheVariants as act
 use Rattle.ad_maps.specs.declared.view.Deed.{Deed}
 use Rattle.ad_maps.specs.declared.view.Deed.TheVariants as deed
@@ -11,8 +12,9 @@ use Rattle.ad_maps.specs.declared.view.Made.{Made}
 use Rattle.ad_maps.specs.Ledger.{line_in, unmaps_in_acts, unmaps_in_deeds}
 use Rattle.ad_maps.specs.Seen.{SeatSeen, MoverSeen}
 
--- a closed table: its rows, and the seats that it was closed with
+-- a closed table: what the table was opened with, its rows, and the seats that it was closed with
 pub record ClosedSeen : Type 0 where
+  pub shape : Shape
   pub rows : List Row
   pub mover : MoverSeen
   pub seats : List SeatSeen

@@ -19,9 +19,10 @@ use std::alloc::Global;
 use std::marker::Model;
 use std::snapshot::Snapshot;
 
-/// A table that was closed. Contracts see its rows, and the seats that it was closed with.
+/// A table that was closed. Contracts see what it was opened with, its rows, and the seats that it was closed with.
 #[derive(Drop)]
 pub struct Closed {
+    maps: Snapshot<Maps>,
     rows: Vec<Row>,
     mover: Snapshot<MoverSeat>,
     seats: Snapshot<Vec<Seat>>,
@@ -32,7 +33,7 @@ impl Model for Closed {
 
     ghost Value = { ClosedSeen };
 
-    ghost view = { λ c. record { rows = c.rows.items; mover = c.mover.value; seats = c.seats.value.items } };
+    ghost view = { λ c. record { shape = c.maps.value.shape; rows = c.rows.items; mover = c.mover.value; seats = c.seats.value.items } };
 }
 
 impl Closed {
@@ -55,6 +56,7 @@ impl Maps {
     ) -> Result<Closed, OutOfMemory>
         requires mover { mover.table ≡ self.table }
         requires seats { AreAllSeats self.table self.shape.workers seats.items }
+        ensures shape { IfOk result (λ closed. closed.shape ≡ self.shape) }
         ensures each_made { IfOk result (λ closed. HaveRowOfEach (all_made self.shape mover.deeds) mover.deeds closed.rows) }
         ensures each_row { IfOk result (λ closed. AreRowsOf (all_made self.shape mover.deeds) mover.deeds closed.rows) }
         ensures in_order { IfOk result (λ closed. AreInOrder closed.rows) }
@@ -64,6 +66,7 @@ impl Maps {
         ensures mover { IfOk result (λ closed. closed.mover ≡ mover) }
         ensures seats { IfOk result (λ closed. closed.seats ≡ seats.items) }
     {
+        let told_maps = Snapshot::of(&self);
         let Maps {
             table,
             frames,
@@ -78,6 +81,7 @@ impl Maps {
         } = mover;
         let rows = ended(alloc, table, frames, seat, seats)?;
         Ok(Closed {
+            maps: told_maps,
             rows,
             mover: told_mover,
             seats: told_seats,
