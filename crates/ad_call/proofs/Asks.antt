@@ -17,9 +17,10 @@ use Rattle.ad_call.specs.declared.asked.Asked.{Asked}
 use Rattle.ad_call.specs.declared.asked.Asked.TheVariants as asked
 use Rattle.ad_call.specs.declared.asked.Track.{Track}
 use Rattle.ad_call.specs.declared.spot.Spot.{Spot}
-use Rattle.ad_call.specs.Asked.{asked_by, asked_by_all, is_elsewhere, is_load, is_local, is_within, local_base, page_asked}
+use Rattle.ad_call.specs.Asked.{asked_by, asked_by_all, is_stack_or_immovable, is_load, is_local, is_within, local_base, page_asked}
 use Rattle.ad_call.specs.Private.Asks.{cell_asked, is_cells, place_asked, told_asked, track_rule}
 use Rattle.ad_call.specs.Private.Spots.{spot_at, spot_in}
+use Rattle.ad_call.specs.View.{View, with_asked}
 use Rattle.ad_call.proofs.Spotted.{spot-behind, spot-first}
 
 module _ {A : Type 0} where
@@ -28,15 +29,20 @@ module _ {A : Type 0} where
   no-more None = refl
   no-more (Some l) = ap Some (append-nil l)
 
-  pub none-more : (o : Option (List A)) (more : List A) → more ≡ [] → o ≡ option_map (λ l. l ++ more) o
-  none-more o more is = sym (no-more o) ∙ ap (λ xs. option_map (λ l. l ++ xs) o) (sym is)
-
   -- some, and then more
   pub and-more : (o : Option (List A)) (xs ys : List A) → option_map (λ l. l ++ ys) (option_map (λ l. l ++ xs) o) ≡ option_map (λ l. l ++ (xs ++ ys)) o
   and-more None xs ys = refl
   and-more (Some l) xs ys = ap Some (append_assoc l xs ys)
 
 module _ {O : Type 0} where
+  -- pages that were asked nothing more
+  pub none-more : (v : View O) (more : List Asked) → more ≡ [] → v ≡ with_asked v more
+  none-more v more is = ap (λ o. record v { asked = o }) (sym (no-more v.asked)) ∙ ap (with_asked v) (sym is)
+
+  -- some, and then more
+  pub more-and-more : (v : View O) (xs ys : List Asked) → with_asked (with_asked v xs) ys ≡ with_asked v (xs ++ ys)
+  more-and-more v xs ys = ap (λ o. record v { asked = o }) (and-more v.asked xs ys)
+
   -- what is kept of accesses is all that they ask
   pub kept : (accesses : List Access) (t : Track O) → fold track_rule t accesses ≡ record t { asked = option_map (λ l. l ++ asked_by_all t.image t.under t.stack accesses) t.asked }
   kept [] t = ap (λ o. record t { asked = o }) (sym (no-more t.asked))
@@ -73,13 +79,13 @@ other-pieces size (r ∷ rs) o none = each (is_cells r) (nat_lt o (size r)) none
     each : (cells here : Bool) → (if cells then false else no_cells rs) ≡ true → is_cells r ≡ cells → (no_cells rs ≡ true → cells_of (spot_in size rs (o - size r)) ≡ [])
         → cells_of (if here then Some (record { role = r; offset = o }) else spot_in size rs (o - size r)) ≡ []
     each true here none is rest = absurd cc
-    each false true none is rest = ap (λ b. if b then asked.Word (o / WORD_BYTES) ∷ [] else []) is
+    each false true none is rest = ap (λ b. if b then asked.Cell (o / WORD_BYTES) ∷ [] else []) is
     each false false none is rest = rest none
 
 module _ (i : Image) (under stack : Place) (at : ℕ) where
   -- the local word that a load finds, if its address is one of the local area
   abbrev local_part : List Asked
-  local_part = if is_local i under at then asked.Word ((at - local_base i under) / WORD_BYTES) ∷ [] else []
+  local_part = if is_local i under at then asked.Cell ((at - local_base i under) / WORD_BYTES) ∷ [] else []
 
   outside-local : (local_base i under ≤ at → at < local_base i under + LOCAL_PAGES * PAGE_BYTES → ⊥) → local_part ≡ []
   outside-local out = elim (cases_lt at (local_base i under)) [
@@ -90,7 +96,7 @@ module _ (i : Image) (under stack : Place) (at : ℕ) where
     ]
   ]
 
-  inside-local : local_base i under ≤ at → at < local_base i under + LOCAL_PAGES * PAGE_BYTES → local_part ≡ asked.Word ((at - local_base i under) / WORD_BYTES) ∷ []
+  inside-local : local_base i under ≤ at → at < local_base i under + LOCAL_PAGES * PAGE_BYTES → local_part ≡ asked.Cell ((at - local_base i under) / WORD_BYTES) ∷ []
   inside-local low high = grind (arith, nat_tests)
 
   -- the pieces before the local area have no local word
@@ -164,8 +170,8 @@ module _ (i : Image) (under stack : Place) (at : ℕ) where
 
   -- what a fetch or a store asks: for its page
   pub other-asks : (use_of : Use) (size : ℕ) → is_load use_of ≡ false → asked_by i under stack (record { at = at; size = size; use_of = use_of }) ≡ place_asked i stack at
-  other-asks use_of size unloaded = ap (λ b. if is_elsewhere i stack at then [] else page_asked at ++ (if b && is_local i under at then asked.Word ((at - local_base i under) / WORD_BYTES) ∷ [] else [])) unloaded
-      ∙ ap (λ l. if is_elsewhere i stack at then [] else l) (append-nil (page_asked at))
+  other-asks use_of size unloaded = ap (λ b. if is_stack_or_immovable i stack at then [] else page_asked at ++ (if b && is_local i under at then asked.Cell ((at - local_base i under) / WORD_BYTES) ∷ [] else [])) unloaded
+      ∙ ap (λ l. if is_stack_or_immovable i stack at then [] else l) (append-nil (page_asked at))
 
   -- an aligned access outside region 1 is told, and one in region 1 is not
   told-here : (use_of : Use) (size : ℕ) → at % size ≡ 0 → ¬ (at / REGION_BYTES ≡ 1) → told use_of size at ≡ record { at = at; size = size; use_of = use_of } ∷ []
@@ -181,25 +187,25 @@ module _ (i : Image) (under stack : Place) (at : ℕ) where
   pub region-asks : (use_of : Use) (size : ℕ) → at % size ≡ 0 → at / REGION_BYTES ≡ 1 → told_asked i under stack use_of size at ≡ []
   region-asks use_of size aligned region = ap (asked_by_all i under stack) (told-nothing use_of size aligned region)
 
-module _ (i : Image) (under stack : Place) (at size : ℕ) (aligned : at % size ≡ 0) (before after : Option (List Asked)) where
+module _ {O : Type 0} (i : Image) (under stack : Place) (at size : ℕ) (aligned : at % size ≡ 0) (before after : View O) where
   -- an access to region 1 asks nothing
-  pub asked-region : (use_of : Use) → at / REGION_BYTES ≡ 1 → before ≡ option_map (λ l. l ++ told_asked i under stack use_of size at) before
+  pub asked-region : (use_of : Use) → at / REGION_BYTES ≡ 1 → before ≡ with_asked before (told_asked i under stack use_of size at)
   asked-region use_of region = none-more before (told_asked i under stack use_of size at) (region-asks i under stack at use_of size aligned region)
 
-  -- a fetch or a store elsewhere asks for its page
-  pub asked-page : (use_of : Use) → is_load use_of ≡ false → ¬ (at / REGION_BYTES ≡ 1) → after ≡ option_map (λ l. l ++ place_asked i stack at) before → after ≡ option_map (λ l. l ++ told_asked i under stack use_of size at) before
+  -- a fetch or a store outside region 1 asks for its page
+  pub asked-page : (use_of : Use) → is_load use_of ≡ false → ¬ (at / REGION_BYTES ≡ 1) → after ≡ with_asked before (place_asked i stack at) → after ≡ with_asked before (told_asked i under stack use_of size at)
   asked-page use_of unloaded outside is =
-      is ∙ ap (λ more. option_map (λ l. l ++ more) before) (told-asks i under stack at use_of size (place_asked i stack at) aligned outside (other-asks i under stack at use_of size unloaded))
+      is ∙ ap (with_asked before) (told-asks i under stack at use_of size (place_asked i stack at) aligned outside (other-asks i under stack at use_of size unloaded))
 
-  -- a load elsewhere that finds nothing asks for its page
-  pub asked-missing : ¬ (at / REGION_BYTES ≡ 1) → spot_at i under stack at ≡ None → after ≡ option_map (λ l. l ++ place_asked i stack at) before → after ≡ option_map (λ l. l ++ told_asked i under stack Load size at) before
+  -- a load outside region 1 that finds nothing asks for its page
+  pub asked-missing : ¬ (at / REGION_BYTES ≡ 1) → spot_at i under stack at ≡ None → after ≡ with_asked before (place_asked i stack at) → after ≡ with_asked before (told_asked i under stack Load size at)
   asked-missing outside none is =
-      is ∙ ap (λ more. option_map (λ l. l ++ more) before)
+      is ∙ ap (with_asked before)
       (told-asks i under stack at Load size (place_asked i stack at) aligned outside (load-asks i under stack at size None none ∙ append-nil (place_asked i stack at)))
 
   -- and one that finds a byte asks for the local word there, too
-  pub asked-number : (between : Option (List Asked)) (spot : Spot) → ¬ (at / REGION_BYTES ≡ 1) → spot_at i under stack at ≡ Some spot
-      → between ≡ option_map (λ l. l ++ place_asked i stack at) before → after ≡ option_map (λ l. l ++ cell_asked spot) between → after ≡ option_map (λ l. l ++ told_asked i under stack Load size at) before
+  pub asked-number : (between : View O) (spot : Spot) → ¬ (at / REGION_BYTES ≡ 1) → spot_at i under stack at ≡ Some spot
+      → between ≡ with_asked before (place_asked i stack at) → after ≡ with_asked between (cell_asked spot) → after ≡ with_asked before (told_asked i under stack Load size at)
   asked-number between spot outside found first second =
-      second ∙ ap (option_map (λ l. l ++ cell_asked spot)) first ∙ and-more before (place_asked i stack at) (cell_asked spot)
-      ∙ ap (λ more. option_map (λ l. l ++ more) before) (told-asks i under stack at Load size (place_asked i stack at ++ cell_asked spot) aligned outside (load-asks i under stack at size (Some spot) found))
+      second ∙ ap (λ v. with_asked v (cell_asked spot)) first ∙ more-and-more before (place_asked i stack at) (cell_asked spot)
+      ∙ ap (with_asked before) (told-asks i under stack at Load size (place_asked i stack at ++ cell_asked spot) aligned outside (load-asks i under stack at size (Some spot) found))

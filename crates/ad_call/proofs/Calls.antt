@@ -52,21 +52,20 @@ module _ (image : Image) (fuel : ℕ) (book : Contents) (c : Call) (args : List 
   run_asks = ap (λ (o : PlainOutcome). asked_by_all image c.under c.stack o.accesses) same_run
 
 -- what the run of a call left, and the entry that was appended
-pub record Left (image : Image) (fuel : ℕ) (book : Contents) (c : Call) (args : List ℕ) (seen : Image) (under stack : Place) (end : End) (bytes made written kept left copy : List ℕ) (entries : List Entry) : Type 0 where
+pub record Left (image : Image) (fuel : ℕ) (book : Contents) (c : Call) (args : List ℕ) (seen : Image) (under stack : Place) (end : End) (bytes made written kept left : List ℕ) (entries : List Entry) : Type 0 where
   pub end_is : end ≡ (outcome_of image fuel book c args).end
   pub memory : memory_of seen under stack bytes kept written made left ≡ (outcome_of image fuel book c args).memory
-  pub copied : copy ≡ args
-  pub appended : entries ≡ book.entries ++ record { line = c.line; worker = c.worker; export = c.export; args = copy; under = c.under; stack = c.stack; notes = made; end = end } ∷ []
+  pub appended : entries ≡ book.entries ++ record { line = c.line; worker = c.worker; export = c.export; args = args; under = c.under; stack = c.stack; notes = made; end = end } ∷ []
 
 -- this is the book after the call
-pub call_made : (image : Image) (fuel : ℕ) (book : Contents) (c : Call) (args : List ℕ) (seen : Image) (under stack : Place) (end : End) (bytes made written kept left copy : List ℕ) (entries : List Entry)
-    → Left image fuel book c args seen under stack end bytes made written kept left copy entries
+pub call_made : (image : Image) (fuel : ℕ) (book : Contents) (c : Call) (args : List ℕ) (seen : Image) (under stack : Place) (end : End) (bytes made written kept left : List ℕ) (entries : List Entry)
+    → Left image fuel book c args seen under stack end bytes made written kept left entries
     → record { writable = written; fixed = kept; device = left; entries = entries } ≡ after_call image fuel book c args
 unfolding after_call
-call_made image fuel book c args seen under stack end bytes made written kept left copy entries l =
+call_made image fuel book c args seen under stack end bytes made written kept left entries l =
     let o = outcome_of image fuel book c args in
-    let made_entry : Entry = record { line = c.line; worker = c.worker; export = c.export; args = copy; under = c.under; stack = c.stack; notes = made; end = end } in
-    let is : made_entry ≡ entry_of c args o = λ j. record { line = c.line; worker = c.worker; export = c.export; args = l.copied j; under = c.under; stack = c.stack; notes = (l.memory j).notes; end = l.end_is j } in
+    let made_entry : Entry = record { line = c.line; worker = c.worker; export = c.export; args = args; under = c.under; stack = c.stack; notes = made; end = end } in
+    let is : made_entry ≡ entry_of c args o = λ j. record { line = c.line; worker = c.worker; export = c.export; args = args; under = c.under; stack = c.stack; notes = (l.memory j).notes; end = l.end_is j } in
     let all = l.appended ∙ ap (λ (x : Entry). book.entries ++ x ∷ []) is in
     λ j. record { writable = bytes_of_role is_data (l.memory j).segments; fixed = bytes_of_role is_fixed_data (l.memory j).segments; device = (l.memory j).queue; entries = all j }
 

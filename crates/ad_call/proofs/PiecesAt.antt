@@ -74,14 +74,14 @@ module _ (b : Pieces) (at : ℕ) (fits_word : at < 2 ^ 64) (below : (at + (2 ^ 6
       let found = inside b.bounds.text_base b.bounds.clear_text at fits_word (omega (arith, b.low.text, b.low.text_bytes)) below in
       record { from = omega (arith, found, base_is); to = omega (arith, found, base_is, below, bytes_are, few, b.sized) }
 
-  -- its page and its offset there say which byte of the text it is
-  pub text-spot : (place : Place) (page : ℕ) → place ≡ b.under → page ≡ page_number place at
-      → spot_at b.image.now b.under b.stack at ≡ Some (record { role = Code; offset = page * PAGE_BYTES + at % PAGE_BYTES })
-  text-spot place page same is =
+  -- how far it lies behind the first byte says which byte of the text it is
+  pub text-spot : spot_at b.image.now b.under b.stack at ≡ Some (record { role = Code; offset = at - base_of b.under })
+  text-spot =
       let clear = clear-text-at b at fits_word below in
-      let offset = (at + (2 ^ 64 - b.bounds.text_base)) % 2 ^ 64 in
       let base_is : b.bounds.text_base ≡ base_of b.under = ap (λ x. x.text_base) b.bounded in
       let found = inside b.bounds.text_base b.bounds.clear_text at fits_word (omega (arith, b.low.text, b.low.text_bytes)) below in
-      let page_is : page ≡ page_number b.under at = is ∙ ap (λ p. page_number p at) same in
-      let so : offset ≡ page * PAGE_BYTES + at % PAGE_BYTES = omega (arith, found, base_is) ∙ sym (in-place b.under at text-inside.from) ∙ ap (λ n. n * PAGE_BYTES + at % PAGE_BYTES) (sym page_is) in
-      clear.spot ∙ ap (λ n. Some (record { role = Code; offset = n })) so
+      clear.spot ∙ ap (λ n. Some (record { role = Code; offset = n })) (omega (arith, found, base_is))
+
+  -- and so do its page and its offset there
+  pub text-offset : (place : Place) (page : ℕ) → place ≡ b.under → page ≡ page_number place at → page * PAGE_BYTES + at % PAGE_BYTES ≡ at - base_of b.under
+  text-offset place page same is = ap (λ n. n * PAGE_BYTES + at % PAGE_BYTES) (is ∙ ap (λ p. page_number p at) same) ∙ in-place b.under at text-inside.from

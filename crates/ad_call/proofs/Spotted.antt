@@ -1,19 +1,21 @@
 -- Where an address lies among pieces that stand one behind the other, and among those of a module and a stack.
 use Rattle.std.proofs.Common.{◌≡◌, ◌⊎◌, inl, inr, ℕ, ◌+◌, ◌-◌, ◌*◌, ◌/◌, ◌%◌, ◌^◌, ◌<◌, ◌≤◌, ◌&&◌, Bool, true, false, List, [], ◌∷◌, ◌++◌, length, Option, None, Some, refl, sym, ap, subst, ◌∙◌, arith}
-use Rattle.std.specs.Prelude.{nat_le}
+use Rattle.std.specs.Prelude.{◌||◌, nat_le, nat_lt, if◌then◌else◌, All}
 use Rattle.std.proofs.lemmas.Bool.{cases_lt, cond_both, leb-true}
 use Rattle.std.proofs.lemmas.Bool.Decides.{nat_tests}
+use Rattle.std.proofs.lemmas.List.Elements.{All-cons, All-head, All-nil, All-tail}
 use Rattle.ad_base.specs.declared.image.Image.{Image}
 use Rattle.ad_base.specs.declared.layout.TheConstants.{MODULE_REGION, PAGE_BYTES, REGION_BYTES, STACK_PAGES, WORD_BYTES}
 use Rattle.ad_base.specs.declared.place.Place.{Place}
 use Rattle.ad_base.specs.declared.role.Role.{Role}
-use Rattle.ad_base.specs.declared.role.Role.TheVariants.{Cells, Code, Constants, Data, Stack, Table}
+use Rattle.ad_base.specs.declared.role.Role.TheVariants.{Cells, Code, Constants, Data, FixedCode, FixedConstants, FixedData, FixedTable, Stack, Table}
 use Rattle.ad_base.specs.Image.{IsWhole, movable_pages}
 use Rattle.ad_base.specs.Layout.{fixed_roles, laid_out, movable_roles, rights_of, size_of, stack_roles, text_bytes}
 use Rattle.ad_base.specs.Place.{base_of}
 use Rattle.ad_base.specs.Segments.{Segment, holding}
 use Rattle.ad_core.specs.Image.{bytes_under, segments_of}
 use Rattle.ad_call.specs.declared.spot.Spot.{Spot}
+use Rattle.ad_call.specs.Asked.{is_stack_or_immovable, is_within}
 use Rattle.ad_call.specs.Call.{HasData}
 use Rattle.ad_call.specs.Private.Spots.{IsHeld, bounds_of, is_apart, is_text_alone, spot_at, spot_from, spot_in}
 use Rattle.ad_call.specs.Private.WholeWords.{base-whole, length-bytes_under, size-whole}
@@ -39,7 +41,56 @@ part-outside base n size roles at otherwise out = elim (cases_lt at base) [
   ]
 ]
 
+-- what holds of the role of each piece holds of the role of a byte of one
+spot-of : (P : Role → Type 0) (size : Role → ℕ) (roles : List Role) (o : ℕ) (spot : Spot) → All P roles → spot_in size roles o ≡ Some spot → P spot.role
+spot-of P size [] o spot all is = absurd cc
+spot-of P size (r ∷ rs) o spot all is = each (nat_lt o (size r)) (λ later. spot-of P size rs (o - size r) spot (All-tail P r rs all) later) is
+  where
+    each : (here : Bool) → (spot_in size rs (o - size r) ≡ Some spot → P spot.role) → (if here then Some (record { role = r; offset = o }) else spot_in size rs (o - size r)) ≡ Some spot → P spot.role
+    each true rest e = let first : Spot = record { role = r; offset = o } in let same : first ≡ spot = cc in subst P (ap (λ (s : Spot). s.role) same) (All-head P r rs all)
+    each false rest e = rest e
+
+-- a piece of the movable part
+abbrev pub is_movable : Role → Bool
+is_movable Code = true
+is_movable Constants = true
+is_movable Table = true
+is_movable Cells = true
+is_movable Data = true
+is_movable role = false
+
+abbrev IsOther : Role → Type 0
+IsOther r = is_movable r ≡ false
+
+other-stack : All IsOther stack_roles
+other-stack = All-cons IsOther Stack [] refl (All-nil IsOther)
+
+other-fixed : All IsOther fixed_roles
+other-fixed =
+    All-cons IsOther FixedCode (FixedConstants ∷ FixedTable ∷ FixedData ∷ []) refl
+    (All-cons IsOther FixedConstants (FixedTable ∷ FixedData ∷ []) refl (All-cons IsOther FixedTable (FixedData ∷ []) refl (All-cons IsOther FixedData [] refl (All-nil IsOther))))
+
+-- an address in a piece of the movable part is in neither the stack nor the immovable part, and is one of the movable part
+pub record IsMovableAt (i : Image) (under stack : Place) (at : ℕ) : Type 0 where
+  pub apart : is_stack_or_immovable i stack at ≡ false
+  pub from : base_of under ≤ at
+  pub to : at < base_of under + movable_pages i * PAGE_BYTES
+
 module _ (i : Image) (under stack : Place) (at : ℕ) where
+  pub movable-at : (spot : Spot) → spot_at i under stack at ≡ Some spot → is_movable spot.role ≡ true → IsMovableAt i under stack at
+  movable-at spot is may =
+      let both = parts (is_within (base_of stack) (STACK_PAGES * PAGE_BYTES) at) (is_within (base_of i.fixed) (i.fixed.pages * PAGE_BYTES) at) (is_within (base_of under) (movable_pages i * PAGE_BYTES) at)
+      (spot_in (size_of i) stack_roles (at - base_of stack)) (spot_in (size_of i) fixed_roles (at - base_of i.fixed)) (spot_in (size_of i) movable_roles (at - base_of under))
+      (λ e. spot-of IsOther (size_of i) stack_roles (at - base_of stack) spot other-stack e) (λ e. spot-of IsOther (size_of i) fixed_roles (at - base_of i.fixed) spot other-fixed e) is in
+      record { apart = both.0; from = grind (arith, nat_tests, both.1); to = grind (arith, nat_tests, both.1) }
+    where
+      parts : (a b c : Bool) (in_stack in_fixed in_movable : Option Spot) → (in_stack ≡ Some spot → IsOther spot.role) → (in_fixed ≡ Some spot → IsOther spot.role)
+          → (if a then in_stack else (if b then in_fixed else (if c then in_movable else None))) ≡ Some spot → (a || b ≡ false) × (c ≡ true)
+      parts true b c in_stack in_fixed in_movable first second e = let other : is_movable spot.role ≡ false = first e in absurd cc
+      parts false true c in_stack in_fixed in_movable first second e = let other : is_movable spot.role ≡ false = second e in absurd cc
+      parts false false true in_stack in_fixed in_movable first second e = (refl, refl)
+      parts false false false in_stack in_fixed in_movable first second e = absurd cc
+
   -- an address in the stack
   pub spot-stack : base_of stack ≤ at → at < base_of stack + STACK_PAGES * PAGE_BYTES → spot_at i under stack at ≡ Some (record { role = Stack; offset = at - base_of stack })
   spot-stack low high =

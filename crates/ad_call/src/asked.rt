@@ -8,7 +8,7 @@ pub enum Asked {
     /// For the page of this address.
     Page(u64),
     /// For the local word at this entry.
-    Word(u64),
+    Cell(u64),
 }
 
 /// What a bus keeps of the accesses of a call: where the parts and the stack lie, what the pages were made with, and what

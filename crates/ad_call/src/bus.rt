@@ -1,14 +1,15 @@
 //! The memory that a call of a module reaches.
 
-ghost use Rattle.ad_base.specs.Segments.{Fetch};
-ghost use Rattle.ad_call.specs.Private.Asks.{told_asked};
-ghost use Rattle.ad_call.specs.Private.InPieces.{segments_in};
-ghost use Rattle.ad_core.specs.Memory.{fetched};
-ghost use Rattle.std.specs.Prelude.{◌≡◌, ◌+◌, ◌-◌, ◌%◌, ◌^◌, ◌<◌, ◌++◌, option_map};
+ghost use Rattle.ad_base.specs.declared.role.Role.TheVariants.{Code};
+ghost use Rattle.ad_base.specs.Place.{base_of};
+ghost use Rattle.ad_call.specs.Asked.{page_asked};
+ghost use Rattle.ad_call.specs.Private.Stored.{word_of_role};
+ghost use Rattle.ad_call.specs.View.{with_asked};
+ghost use Rattle.std.specs.Prelude.{◌≡◌, ◌+◌, ◌-◌, ◌%◌, ◌^◌, ◌<◌};
 
+use crate::access::{fetch_any, load_any, store_any};
 use crate::asked::Track;
 use crate::bytes::number_at;
-use crate::elsewhere::{fetch_elsewhere, load_elsewhere, store_elsewhere};
 use crate::pages::Pages;
 use crate::pieces::Pieces;
 use crate::spot::Spot;
@@ -21,8 +22,8 @@ pub struct ModuleBus<'a, P: Pages> {
     pub pages: P,
     pub device: Device,
     pub notes: Notes,
-    ghost place: { P.place pages ≡ pieces.under },
-    ghost cells: { P.cells pages ≡ pieces.image.now.cells },
+    ghost place: { (P.view pages).place ≡ pieces.under },
+    ghost cells: { (P.view pages).cells ≡ pieces.image.now.cells },
 }
 
 impl<P: Pages> Bus for ModuleBus<'_, P> {
@@ -42,8 +43,8 @@ impl<P: Pages> Bus for ModuleBus<'_, P> {
       image = b.pieces.image.now;
       under = b.pieces.under;
       stack = b.pieces.stack;
-      origin = P.origin b.pages;
-      asked = P.asked b.pages;
+      origin = (P.view b.pages).origin;
+      asked = (P.view b.pages).asked;
     } };
 
     ghost rule = { track_rule };
@@ -55,7 +56,7 @@ impl<P: Pages> Bus for ModuleBus<'_, P> {
         if offset < self.pieces.bounds.clear_text {
             return fetch_text(&mut self.pages, &self.pieces, at);
         }
-        fetch_elsewhere(&mut self.pages, &self.pieces, at)
+        fetch_any(&mut self.pages, &self.pieces, at)
     }
 
     fn load(&mut self, at: u64, size: u8) -> Result<u64, Refusal> {
@@ -63,7 +64,7 @@ impl<P: Pages> Bus for ModuleBus<'_, P> {
         if offset < self.pieces.bounds.clear_stack {
             return Ok(number_at(self.pieces.bytes.stack(), offset, size));
         }
-        load_elsewhere(&mut self.pages, &self.pieces, at, size)
+        load_any(&mut self.pages, &self.pieces, at, size)
     }
 
     fn store(&mut self, at: u64, size: u8, value: u64) -> Result<(), Refusal> {
@@ -75,7 +76,7 @@ impl<P: Pages> Bus for ModuleBus<'_, P> {
             };
             return self.pieces.store(at, spot, size, value);
         }
-        store_elsewhere(&mut self.pages, &mut self.pieces, at, size, value)
+        store_any(&mut self.pages, &mut self.pieces, at, size, value)
     }
 
     fn service(&mut self, number: u8, a0: u64) -> Served {
@@ -83,18 +84,14 @@ impl<P: Pages> Bus for ModuleBus<'_, P> {
     }
 }
 
-/// What is found where an instruction is fetched, at a byte of the text that nothing else covers.
+/// The word that is fetched at an address of the text that nothing else covers. Its page is asked for.
 #[inline(always)]
 fn fetch_text<P: Pages>(pages: &mut P, pieces: &Pieces, at: u64) -> Fetched
     requires aligned { at % FETCH_BYTES ≡ 0 }
     requires clear { (at + (2 ^ 64 - pieces.now.bounds.text_base)) % 2 ^ 64 < pieces.now.bounds.clear_text }
-    requires place { P.place pages.old ≡ pieces.now.under }
-    ensures found { result ≡ fetched (segments_in pieces.now) at }
-    ensures place { P.place pages.new ≡ P.place pages.old }
-    ensures cells { P.cells pages.new ≡ P.cells pages.old }
-    ensures origin { P.origin pages.new ≡ P.origin pages.old }
-    ensures asked { P.asked pages.new ≡ option_map
-        (λ list. list ++ told_asked pieces.now.image.now pieces.now.under pieces.now.stack Fetch FETCH_BYTES at) (P.asked pages.old) }
+    requires place { (P.view pages.old).place ≡ pieces.now.under }
+    ensures word { result ≡ word_of_role pieces.now.image.now Code (at - base_of pieces.now.under) }
+    ensures pages { P.view pages.new ≡ with_asked (P.view pages.old) (page_asked at) }
 {
     let Some(page) = pages.page(at) else {
         unreachable!();

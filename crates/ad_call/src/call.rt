@@ -1,11 +1,12 @@
 //! The run of one call.
 
-ghost use Rattle.std.specs.Prelude.{◌≡◌, ◌+◌, ◌*◌, ◌<◌, ◌++◌, length, option_map};
+ghost use Rattle.std.specs.Prelude.{◌≡◌, ◌+◌, ◌*◌, ◌<◌, length};
 ghost use Rattle.ad_base.specs.declared.layout.TheConstants.{PAGE_BYTES, STACK_PAGES};
 ghost use Rattle.ad_base.specs.Book.{contents_of};
 ghost use Rattle.ad_base.specs.Image.{movable_pages, IsWhole};
 ghost use Rattle.ad_call.specs.Asked.{asked_in_call};
 ghost use Rattle.ad_call.specs.Call.{after_call, HasData};
+ghost use Rattle.ad_call.specs.View.{with_asked};
 
 use crate::bus::ModuleBus;
 use crate::held::CallBytes;
@@ -13,7 +14,7 @@ use crate::pages::Pages;
 use crate::pieces::Pieces;
 use crate::spot::Bounds;
 use crate::stack_bytes::StackBytes;
-use ad_base::{Args, Book, Device, Entry, Image, Notes, PAGE_BYTES, Place, STACK_PAGES};
+use ad_base::{Args, Book, Device, End, Entry, Image, Notes, PAGE_BYTES, Place, STACK_PAGES};
 use std::mem;
 
 /// A call that is to be made, but for its arguments.
@@ -44,57 +45,21 @@ pub fn run_call<P: Pages>(
     requires data { HasData image.now book.old.writable book.old.fixed }
     requires export { call.export < length image.now.exports }
     requires room { 0 < book.old.history.room }
-    requires under { P.place pages ≡ call.under }
+    requires under { (P.view pages).place ≡ call.under }
     requires under_pages { call.under.pages ≡ movable_pages image.now }
-    requires cells { P.cells pages ≡ image.now.cells }
+    requires cells { (P.view pages).cells ≡ image.now.cells }
     requires stack { call.stack.pages ≡ STACK_PAGES }
     ensures after { contents_of book.new ≡ after_call image.now fuel (contents_of book.old) call args.now }
     ensures data { HasData image.now book.new.writable book.new.fixed }
     ensures room { book.new.history.room + 1 ≡ book.old.history.room }
-    ensures place { P.place result ≡ P.place pages }
-    ensures cells { P.cells result ≡ P.cells pages }
-    ensures origin { P.origin result ≡ P.origin pages }
-    ensures asked { P.asked result ≡ option_map
-        (λ list. list ++ asked_in_call image.now fuel (contents_of book.old) call args.now) (P.asked pages) }
-{
-    let empty = Vec::new(*bytes.bytes.allocator());
-    let stack = mem::replace(&mut bytes.bytes, empty);
-    let (pages, stack) = run_on(pages, stack, image, book, call, args, fuel);
-    bytes.bytes = stack;
-    pages
-}
-
-/// The same, with the bytes of the stack by value.
-fn run_on<P: Pages>(
-    pages: P,
-    stack: Vec<u8>,
-    image: &Image,
-    book: &mut Book,
-    call: Call,
-    args: &Args,
-    fuel: u64,
-) -> (P, Vec<u8>)
-    requires long { length stack.items ≡ STACK_PAGES * PAGE_BYTES }
-    requires whole { IsWhole image.now }
-    requires data { HasData image.now book.old.writable book.old.fixed }
-    requires export { call.export < length image.now.exports }
-    requires room { 0 < book.old.history.room }
-    requires under { P.place pages ≡ call.under }
-    requires under_pages { call.under.pages ≡ movable_pages image.now }
-    requires cells { P.cells pages ≡ image.now.cells }
-    ensures after { contents_of book.new ≡ after_call image.now fuel (contents_of book.old) call args.now }
-    ensures data { HasData image.now book.new.writable book.new.fixed }
-    ensures room { book.new.history.room + 1 ≡ book.old.history.room }
-    ensures place { P.place result.0 ≡ P.place pages }
-    ensures cells { P.cells result.0 ≡ P.cells pages }
-    ensures origin { P.origin result.0 ≡ P.origin pages }
-    ensures asked { P.asked result.0 ≡ option_map
-        (λ list. list ++ asked_in_call image.now fuel (contents_of book.old) call args.now) (P.asked pages) }
-    ensures long { length result.1.items ≡ STACK_PAGES * PAGE_BYTES }
+    ensures pages { P.view result ≡ with_asked (P.view pages) (asked_in_call image.now fuel (contents_of book.old) call args.now) }
 {
     let offset = image.exports.as_slice()[call.export as usize].offset;
     let entry = call.under.base().wrapping_add(offset);
     let sp = call.stack.base() + u64::from(STACK_PAGES) * PAGE_BYTES;
+    let empty = Vec::new(*bytes.bytes.allocator());
+    let stack = mem::replace(&mut bytes.bytes, empty);
+    let device = mem::replace(&mut book.device, Device::new());
     let pieces = Pieces {
         image,
         under: call.under,
@@ -105,7 +70,7 @@ fn run_on<P: Pages>(
     let mut bus = ModuleBus {
         pieces,
         pages,
-        device: mem::replace(&mut book.device, Device::new()),
+        device,
         notes: Notes::new(),
     };
     let end = ad_core::call(&mut bus, entry, args, sp, fuel);
@@ -115,11 +80,26 @@ fn run_on<P: Pages>(
         device,
         notes,
     } = bus;
-    let (stack, fixed, writable) = pieces.bytes.into_parts();
-    book.fixed = fixed;
-    book.writable = writable;
+    (bytes.bytes, book.fixed, book.writable) = pieces.bytes.into_parts();
     book.device = device;
-    book.history.push(Entry {
+    book.history.push(made_entry(call, args, notes, end));
+    pages
+}
+
+/// The entry of a call that made these notes and ended so.
+fn made_entry(call: Call, args: &Args, notes: Notes, end: End) -> Entry
+    ensures { result ≡ record {
+      line = call.line;
+      worker = call.worker;
+      export = call.export;
+      args = args.now;
+      under = call.under;
+      stack = call.stack;
+      notes = notes;
+      end = end;
+    } }
+{
+    Entry {
         line: call.line,
         worker: call.worker,
         export: call.export,
@@ -128,6 +108,5 @@ fn run_on<P: Pages>(
         stack: call.stack,
         notes,
         end,
-    });
-    (pages, stack)
+    }
 }

@@ -1,11 +1,11 @@
 //! One call of a module, on the plain machine.
 #![tactic(auto)]
 
+mod access;
 mod asked;
 mod bus;
 mod bytes;
 mod call;
-mod elsewhere;
 mod held;
 mod laws;
 mod pages;
@@ -16,7 +16,7 @@ mod stack_bytes;
 
 pub use asked::Asked;
 pub use call::{Call, run_call};
-pub use laws::law_touched;
+pub use laws::{law_touched, law_worked_asking};
 pub use pages::Pages;
 pub use plain_mapping::PlainMapping;
 pub use stack_bytes::StackBytes;

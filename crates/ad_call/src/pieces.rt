@@ -8,13 +8,14 @@ ghost use Rattle.ad_call.specs.Call.{HasData};
 ghost use Rattle.ad_call.specs.Private.Asks.{cell_asked};
 ghost use Rattle.ad_call.specs.Private.Spots.{bounds_of, spot_at, IsLow};
 ghost use Rattle.ad_call.specs.Private.Stored.{word_in};
-ghost use Rattle.ad_call.specs.declared.asked.Asked.TheVariants.{Word};
+ghost use Rattle.ad_call.specs.View.{with_asked};
+ghost use Rattle.ad_call.specs.declared.asked.Asked.TheVariants as asked;
 ghost use Rattle.ad_core.specs.Bus.{IsStored};
 ghost use Rattle.ad_core.specs.Image.{bytes_under};
 ghost use Rattle.ad_core.specs.Memory.{stored};
 ghost use Rattle.ad_isa.specs.Words.{IsSize};
 ghost use Rattle.byteorder.specs.Endian.{little_number};
-ghost use Rattle.std.specs.Prelude.{◌≡◌, ◌≢◌, ◌≤◌, ◌<◌, ◌+◌, ◌*◌, ◌/◌, ◌%◌, ◌^◌, ◌++◌, ◌∷◌, [], Some, drop, length, map, option_map, slice_index_or};
+ghost use Rattle.std.specs.Prelude.{◌≡◌, ◌≢◌, ◌≤◌, ◌<◌, ◌+◌, ◌*◌, ◌/◌, ◌%◌, ◌^◌, ◌∷◌, [], Some, drop, length, map, slice_index_or};
 
 use crate::bytes::{bytes_of_word, number_at};
 use crate::held::CallBytes;
@@ -67,15 +68,12 @@ impl Pieces<'_> {
         requires size { IsSize size }
         requires aligned { spot.offset % size ≡ 0 }
         requires inside { spot.offset < size_of self.now.image.now spot.role }
-        requires place { P.place pages.old ≡ self.now.under }
-        requires cells { P.cells pages.old ≡ self.now.image.now.cells }
+        requires place { (P.view pages.old).place ≡ self.now.under }
+        requires cells { (P.view pages.old).cells ≡ self.now.image.now.cells }
         ensures found { result ≡ little_number size (drop spot.offset (bytes_under self.now.image.now self.now.under
             self.now.bytes.stack self.now.bytes.fixed self.now.bytes.writable spot.role)) }
         ensures fits { result < 256 ^ size }
-        ensures place { P.place pages.new ≡ P.place pages.old }
-        ensures cells { P.cells pages.new ≡ P.cells pages.old }
-        ensures origin { P.origin pages.new ≡ P.origin pages.old }
-        ensures asked { P.asked pages.new ≡ option_map (λ list. list ++ cell_asked spot) (P.asked pages.old) }
+        ensures pages { P.view pages.new ≡ with_asked (P.view pages.old) (cell_asked spot) }
     {
         let image = self.image;
         match spot.role {
@@ -130,13 +128,10 @@ fn local_number<P: Pages>(pages: &mut P, offset: u64, size: u8) -> u64
     requires size { IsSize size }
     requires aligned { offset % size ≡ 0 }
     requires inside { offset < PAGE_BYTES }
-    requires few { length (P.cells pages.old) ≤ LOCAL_WORDS }
-    ensures found { result ≡ little_number size (drop offset (page_of_words (map (local_word (base_of (P.place pages.old))) (P.cells pages.old)))) }
+    requires few { length (P.view pages.old).cells ≤ LOCAL_WORDS }
+    ensures found { result ≡ little_number size (drop offset (page_of_words (map (local_word (base_of (P.view pages.old).place)) (P.view pages.old).cells))) }
     ensures fits { result < 256 ^ size }
-    ensures place { P.place pages.new ≡ P.place pages.old }
-    ensures cells { P.cells pages.new ≡ P.cells pages.old }
-    ensures origin { P.origin pages.new ≡ P.origin pages.old }
-    ensures asked { P.asked pages.new ≡ option_map (λ list. list ++ Word (offset / WORD_BYTES) ∷ []) (P.asked pages.old) }
+    ensures pages { P.view pages.new ≡ with_asked (P.view pages.old) (asked.Cell (offset / WORD_BYTES) ∷ []) }
 {
     let word = pages.cell(offset / WORD_BYTES);
     bytes_of_word(word, offset % WORD_BYTES, size)

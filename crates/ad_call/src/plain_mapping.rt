@@ -45,13 +45,7 @@ impl Pages for PlainMapping<'_> {
 
     type Origin = ();
 
-    ghost place = { λ p. p.place };
-
-    ghost cells = { λ p. p.cells.now };
-
-    ghost origin = { λ _. record {} };
-
-    ghost asked = { λ _. None };
+    ghost view = { λ p. record { place = p.place; cells = p.cells.now; origin = record {}; asked = None } };
 
     #[inline(always)]
     fn page(&mut self, va: u64) -> Option<u64> {

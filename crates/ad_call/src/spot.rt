@@ -1,11 +1,12 @@
 //! Where an address lies among the pieces of a module and the stack.
 
-ghost use Rattle.std.specs.Prelude.{◌≡◌, ◌+◌, ◌*◌, ◌^◌, ◌<◌, ◌++◌, [], ◌∷◌, option_map};
+ghost use Rattle.std.specs.Prelude.{◌≡◌, ◌+◌, ◌*◌, ◌^◌, ◌<◌, [], ◌∷◌};
 ghost use Rattle.ad_base.specs.Image.{movable_pages, IsWhole};
 ghost use Rattle.ad_base.specs.Layout.{fixed_roles, movable_roles, size_of, text_bytes};
 ghost use Rattle.ad_base.specs.declared.role.Role.TheVariants.{Cells, Data};
 ghost use Rattle.ad_call.specs.Private.Asks.{place_asked};
 ghost use Rattle.ad_call.specs.Private.Spots.{bounds_of, is_apart, spot_at, spot_in, IsLow};
+ghost use Rattle.ad_call.specs.View.{with_asked};
 
 use crate::pages::Pages;
 use ad_base::{
@@ -82,12 +83,9 @@ fn is_apart(base: u64, bytes: u64, other: u64, more: u64) -> bool
 /// The byte at an address: of the stack, else of the immovable part, else of the movable one, as its pages say.
 pub fn locate<P: Pages>(pages: &mut P, image: &Image, stack: Place, at: u64) -> Option<Spot>
     requires whole { IsWhole image.now }
-    requires sized { (P.place pages.old).pages ≡ movable_pages image.now }
-    ensures spot { result ≡ spot_at image.now (P.place pages.old) stack at }
-    ensures place { P.place pages.new ≡ P.place pages.old }
-    ensures cells { P.cells pages.new ≡ P.cells pages.old }
-    ensures origin { P.origin pages.new ≡ P.origin pages.old }
-    ensures asked { P.asked pages.new ≡ option_map (λ list. list ++ place_asked image.now stack at) (P.asked pages.old) }
+    requires sized { (P.view pages.old).place.pages ≡ movable_pages image.now }
+    ensures spot { result ≡ spot_at image.now (P.view pages.old).place stack at }
+    ensures pages { P.view pages.new ≡ with_asked (P.view pages.old) (place_asked image.now stack at) }
 {
     let stack_base = stack.base();
     if at >= stack_base && at - stack_base < u64::from(STACK_PAGES) * PAGE_BYTES {

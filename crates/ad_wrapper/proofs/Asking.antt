@@ -32,7 +32,7 @@ asking-page before after va told untold =
 -- all acts are there
 with-act : (a : Asking) (x : Act) → acts_in (with_act a x) ≡ acts_in a ++ x ∷ []
 with-act a (act.Page at) = ap (λ list. a.begun ++ list) (map-append act_of a.asked (asked.Page at ∷ [])) ∙ sym (append_assoc a.begun (map act_of a.asked) (act.Page at ∷ []))
-with-act a (act.Cell entry) = ap (λ list. a.begun ++ list) (map-append act_of a.asked (asked.Word entry ∷ [])) ∙ sym (append_assoc a.begun (map act_of a.asked) (act.Cell entry ∷ []))
+with-act a (act.Cell entry) = ap (λ list. a.begun ++ list) (map-append act_of a.asked (asked.Cell entry ∷ [])) ∙ sym (append_assoc a.begun (map act_of a.asked) (act.Cell entry ∷ []))
 with-act a act.Enter = append-nil _
 with-act a (act.Read m p) = append-nil _
 with-act a act.Leave = append-nil _

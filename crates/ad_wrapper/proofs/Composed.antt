@@ -1,10 +1,8 @@
 -- The stages of a call, one after the other.
-use Rattle.std.proofs.Common.{◌≡◌, ℕ, ◌+◌, ◌<◌, ◌≤◌, true, List, [], ◌∷◌, ◌++◌, ◌∙◌, length, map, sym, ap, subst, refl, append_assoc, arith}
+use Rattle.std.proofs.Common.{◌≡◌, ℕ, List, [], ◌∷◌, ◌++◌, ◌∙◌, length, map, sym, ap, subst, refl, append_assoc, arith}
 use Rattle.ad_base.specs.declared.book.Book.{Book}
-use Rattle.ad_base.specs.declared.book.Entry.{Entry}
 use Rattle.ad_base.specs.declared.image.Image.{Image}
 use Rattle.ad_base.specs.Book.{Contents, contents_of}
-use Rattle.ad_call.specs.declared.asked.Asked.{Asked}
 use Rattle.ad_call.specs.declared.call.Call.{Call}
 use Rattle.ad_call.specs.Asked.{asked_in_call}
 use Rattle.ad_call.specs.Call.{after_call, entry_of, outcome_of}
@@ -15,14 +13,14 @@ use Rattle.ad_maps.specs.Ledger.{reads_of}
 use Rattle.ad_stacks.specs.History as stacks
 use Rattle.ad_turns.specs.Seen as turns
 use Rattle.ad_turns.specs.Seen.{HeldSeen, turn_of}
-use Rattle.ad_turns.specs.Turns.{AddsOne, AreRising, HaveLengths}
+use Rattle.ad_turns.specs.Turns.{AddsOne, HaveLengths}
 use Rattle.ad_wrapper.specs.Asking.{act_of}
-use Rattle.ad_wrapper.specs.Performed.{acts_of_call, call_for, drawn_once, Performed}
+use Rattle.ad_wrapper.specs.Performed.{call_for, Performed}
 use Rattle.ad_wrapper.specs.Private.Stages.{Began, Ended, IsOver, IsUnder, Ran}
 use Rattle.ad_wrapper.specs.declared.hands.Hands.{Hands}
 use Rattle.ad_wrapper.specs.declared.hands.Ready.{Ready}
 use Rattle.ad_wrapper.specs.declared.shared.Shared.{Shared}
-use Rattle.ad_wrapper.specs.declared.stages.Under.{Under}
+use Rattle.ad_wrapper.specs.declared.stages.OpenCall.{OpenCall}
 use Rattle.ad_wrapper.proofs.ReadActs.{reads-asked, reads-same, reads-unmaps}
 
 -- the plain machine's call adds one entry, of the call's worker
@@ -36,7 +34,7 @@ adds-entry i fuel before after call args called = record {
 }
 
 -- a call that ran may end
-pub over : (s : Shared) (step : Ready) (before after : Under) → IsUnder s step before → Ran s step before after → IsOver s after
+pub over : (s : Shared) (step : Ready) (before after : OpenCall) → IsUnder s step before → Ran s step before after → IsOver s after
 over s step before after under ran =
     let held_seat = ap (λ (h : HeldSeen). h.seat) ran.turn in
     let untouched = ap (λ (h : HeldSeen). h.before) ran.turn ∙ under.untouched in
@@ -61,7 +59,7 @@ regrouped before under step after enter list unmaps began ran ended =
     ended ∙ ap (λ acts. (acts ++ act.Leave ∷ []) ++ unmaps) (ran ∙ ap (λ acts. acts ++ list) began) ∙ simp append_assoc
 
 -- a call that began, ran and ended was made
-pub performed : (s : Shared) (step : Ready) (before : Hands) (u v : Under) (after : Hands)
+pub performed : (s : Shared) (step : Ready) (before : Hands) (u v : OpenCall) (after : Hands)
     → IsUnder s step u → Began before step u → Ran s step u v → Ended v after → Performed s before step after
 performed s step before u v after under began ran ended =
     let place = u.inside.place in

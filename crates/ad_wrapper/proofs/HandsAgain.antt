@@ -1,5 +1,5 @@
 -- The hands after a call are hands of the worker again.
-use Rattle.std.proofs.Common.{◌≡◌, ◌∙◌, ap, sym}
+use Rattle.std.proofs.Common.{◌∙◌, ap, sym}
 use Rattle.ad_wrapper.specs.Fits.{AreHandsOf}
 use Rattle.ad_wrapper.specs.Performed.{Performed}
 use Rattle.ad_wrapper.specs.declared.hands.Hands.{Hands}

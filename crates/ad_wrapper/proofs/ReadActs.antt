@@ -21,7 +21,7 @@ reads-same m (act.Unmap n ∷ acts) more none = reads-same m acts more none
 pub reads-asked : (m : ℕ) (list : List Asked) → reads_of m (map act_of list) ≡ []
 reads-asked m [] = refl
 reads-asked m (asked.Page at ∷ list) = reads-asked m list
-reads-asked m (asked.Word entry ∷ list) = reads-asked m list
+reads-asked m (asked.Cell entry ∷ list) = reads-asked m list
 
 pub reads-unmaps : (m : ℕ) (numbers : List ℕ) → reads_of m (map (λ (n : ℕ). act.Unmap n) numbers) ≡ []
 reads-unmaps m [] = refl

@@ -8,7 +8,7 @@ use Rattle.ad_maps.specs.declared.view.Act.TheVariants as act
 -- the act by which the pages are asked
 abbrev pub act_of : Asked → Act
 act_of (asked.Page at) = act.Page at
-act_of (asked.Word entry) = act.Cell entry
+act_of (asked.Cell entry) = act.Cell entry
 
 -- acts up to the last one that asks nothing, and what was asked since
 pub record Asking : Type 0 where
@@ -22,7 +22,7 @@ acts_in a = a.begun ++ map act_of a.asked
 -- with one act more
 abbrev pub with_act : Asking → Act → Asking
 with_act a (act.Page at) = record a { asked = a.asked ++ asked.Page at ∷ [] }
-with_act a (act.Cell entry) = record a { asked = a.asked ++ asked.Word entry ∷ [] }
+with_act a (act.Cell entry) = record a { asked = a.asked ++ asked.Cell entry ∷ [] }
 with_act a other = record { begun = acts_in a ++ other ∷ []; asked = [] }
 
 -- a list of acts, parted so

@@ -2,11 +2,11 @@
 use Rattle.std.specs.Prelude.{◌≡◌, ℕ, ◌-◌, true, List, [], ◌∷◌, ◌++◌, length, map, slice_get, slice_index, slice_set, Some}
 use Rattle.ad_base.specs.declared.image.Image.{Image}
 use Rattle.ad_base.specs.declared.place.Place.{Place}
-use Rattle.ad_base.specs.Book.{Contents, contents_of}
+use Rattle.ad_base.specs.Book.{contents_of}
 use Rattle.ad_call.specs.declared.asked.Asked.{Asked}
 use Rattle.ad_call.specs.declared.call.Call.{Call}
 use Rattle.ad_call.specs.Asked.{asked_in_call}
-use Rattle.ad_call.specs.Call.{HasData, after_call}
+use Rattle.ad_call.specs.Call.{after_call}
 use Rattle.ad_maps.specs.declared.view.Act.{Act}
 use Rattle.ad_maps.specs.declared.view.Act.TheVariants as act
 use Rattle.ad_maps.specs.Ledger as reads

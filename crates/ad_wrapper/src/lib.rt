@@ -3,11 +3,13 @@
 
 mod call;
 mod hands;
+mod laws;
 mod pinned;
 mod shared;
 mod stages;
 
 pub use call::perform;
 pub use hands::{Hands, Ready};
+pub use laws::law_worked_acts;
 pub use pinned::Pinned;
 pub use shared::Shared;

@@ -21,13 +21,13 @@ impl Pages for Pinned<'_> {
 
     type Origin = Seat;
 
-    ghost place = { λ p. p.inside.place };
-
-    ghost cells = { λ p. cells_of p.maps.now.shape p.inside.of_module };
-
-    ghost origin = { λ p. record p.inside.seat { acts = (asking p.inside.seat.acts).begun; at_rest = false } };
-
-    ghost asked = { λ p. Some (asking p.inside.seat.acts).asked };
+    // Whether a seat is at rest is told of one that has left, and no call of a worker inside tells it: here it says nothing.
+    ghost view = { λ p. record {
+      place = p.inside.place;
+      cells = cells_of p.maps.now.shape p.inside.of_module;
+      origin = record p.inside.seat { acts = (asking p.inside.seat.acts).begun; at_rest = false };
+      asked = Some (asking p.inside.seat.acts).asked;
+    } };
 
     fn page(&mut self, va: u64) -> Option<u64> {
         self.maps.translate(&mut self.inside, va)

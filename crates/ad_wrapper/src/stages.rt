@@ -16,7 +16,7 @@ use std::sync::Wait;
 
 /// A call that is under way: the worker is inside the module, holds a stack, and has the module's book. It can't be
 /// dropped: it must end.
-pub(crate) struct Under {
+pub(crate) struct OpenCall {
     pub(crate) worker: u64,
     pub(crate) inside: Inside,
     pub(crate) stack: Stack,
@@ -31,7 +31,7 @@ pub(crate) fn begin<R: Wait, G: Gate>(
     hands: Hands,
     step: &Ready,
     gate: &G,
-) -> Under
+) -> OpenCall
     requires fits { Fits shared.now }
     requires hands { AreHandsOf shared.now hands }
     requires exists { step.now.«module» < length shared.now.images }
@@ -52,7 +52,7 @@ pub(crate) fn begin<R: Wait, G: Gate>(
     let ticket = shared.turns.draw(turn_seat, step.module);
     let held = shared.turns.wait(rt, ticket);
     gate.pause(worker, step.line, Point::Turn);
-    Under {
+    OpenCall {
         worker,
         inside,
         stack,
@@ -62,13 +62,13 @@ pub(crate) fn begin<R: Wait, G: Gate>(
 }
 
 /// Runs a call on the module's book, and appends its entry.
-pub(crate) fn run(shared: &Shared, under: Under, step: &Ready) -> Under
+pub(crate) fn run(shared: &Shared, under: OpenCall, step: &Ready) -> OpenCall
     requires fits { Fits shared.now }
     requires exists { IsSomeAnd (slice_get shared.now.images step.now.«module») (λ i. step.now.export < length i.exports) }
     requires under { IsUnder shared.now step.now under }
     ensures { Ran shared.now step.now under result }
 {
-    let Under {
+    let OpenCall {
         worker,
         inside,
         stack,
@@ -97,7 +97,7 @@ pub(crate) fn run(shared: &Shared, under: Under, step: &Ready) -> Under
         shared.fuel,
     );
     let Pinned { maps: _, inside } = pages;
-    Under {
+    OpenCall {
         worker,
         inside,
         stack,
@@ -107,11 +107,11 @@ pub(crate) fn run(shared: &Shared, under: Under, step: &Ready) -> Under
 }
 
 /// Ends a call: gives the book back and the turn on, leaves the module, and puts the stack back.
-pub(crate) fn end<G: Gate>(shared: &Shared, under: Under, step: &Ready, gate: &G) -> Hands
+pub(crate) fn end<G: Gate>(shared: &Shared, under: OpenCall, step: &Ready, gate: &G) -> Hands
     requires { IsOver shared.now under }
     ensures { Ended under result }
 {
-    let Under {
+    let OpenCall {
         worker,
         inside,
         stack,

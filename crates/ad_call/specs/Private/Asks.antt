@@ -10,11 +10,11 @@ use Rattle.ad_call.specs.declared.asked.Asked.{Asked}
 use Rattle.ad_call.specs.declared.asked.Asked.TheVariants as asked
 use Rattle.ad_call.specs.declared.asked.Track.{Track}
 use Rattle.ad_call.specs.declared.spot.Spot.{Spot}
-use Rattle.ad_call.specs.Asked.{asked_by, asked_by_all, is_elsewhere, page_asked}
+use Rattle.ad_call.specs.Asked.{asked_by, asked_by_all, is_stack_or_immovable, page_asked}
 
--- the pages are asked for that of an address, unless it is elsewhere
+-- the pages are asked for that of an address, unless it is one of the stack or of the immovable part
 abbrev pub place_asked : Image → Place → ℕ → List Asked
-place_asked i stack at = if is_elsewhere i stack at then [] else page_asked at
+place_asked i stack at = if is_stack_or_immovable i stack at then [] else page_asked at
 
 abbrev pub is_cells : Role → Bool
 is_cells Cells = true
@@ -22,7 +22,7 @@ is_cells role = false
 
 -- and for the local word at a byte of a piece
 abbrev pub cell_asked : Spot → List Asked
-cell_asked spot = if is_cells spot.role then asked.Word (spot.offset / WORD_BYTES) ∷ [] else []
+cell_asked spot = if is_cells spot.role then asked.Cell (spot.offset / WORD_BYTES) ∷ [] else []
 
 -- what an access asks, if it is told
 abbrev pub told_asked : Image → Place → Place → Use → ℕ → ℕ → List Asked

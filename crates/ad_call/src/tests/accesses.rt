@@ -7,7 +7,7 @@ use crate::tests::module::{
     RETURN, STACK_BASE, STACK_END, STUB, TABLE, TABLE_WORD, UNDER, USUAL, asked, called,
     called_twice, end_of, word_at,
 };
-use crate::tests::noted::Question::{Page, Word};
+use crate::tests::noted::Question::{Cell, Page};
 use ad_base::{End, GATE, Place};
 use std::test::Fail;
 
@@ -303,8 +303,8 @@ fn the_stack_counts_before_the_immovable_part(rt: HostRuntime) -> Result<(), Fai
 fn the_pages_are_asked_at_each_access_of_the_movable_part(rt: HostRuntime) -> Result<(), Fail> {
     const FIRST: u64 = CODE;
     const SECOND: u64 = CODE + 4;
-    let local_word = [Page(FIRST), Page(CELLS + 8), Word(1), Page(SECOND)];
-    let behind_the_words = [Page(FIRST), Page(CELLS + 4_088), Word(511), Page(SECOND)];
+    let local_word = [Page(FIRST), Page(CELLS + 8), Cell(1), Page(SECOND)];
+    let behind_the_words = [Page(FIRST), Page(CELLS + 4_088), Cell(511), Page(SECOND)];
     let datum = [Page(FIRST), Page(DATA), Page(SECOND)];
     let elsewhere = [Page(FIRST), Page(SECOND)];
     let missing = [Page(FIRST), Page(DATA_END)];
@@ -314,7 +314,7 @@ fn the_pages_are_asked_at_each_access_of_the_movable_part(rt: HostRuntime) -> Re
         (
             LW,
             CELLS + 12,
-            [Page(FIRST), Page(CELLS + 12), Word(1), Page(SECOND)].as_slice(),
+            [Page(FIRST), Page(CELLS + 12), Cell(1), Page(SECOND)].as_slice(),
         ),
         (LD, CELLS + 4_088, behind_the_words.as_slice()),
         (LD, DATA, datum.as_slice()),

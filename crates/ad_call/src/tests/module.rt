@@ -218,14 +218,14 @@ pub fn make<P: Pages>(
     requires data { HasData image.now book.old.writable book.old.fixed }
     requires export { call.export < 2 }
     requires room { 0 < book.old.history.room }
-    requires under { P.place pages ≡ call.under }
+    requires under { (P.view pages).place ≡ call.under }
     requires under_pages { call.under.pages ≡ movable_pages image.now }
-    requires cells { P.cells pages ≡ image.now.cells }
+    requires cells { (P.view pages).cells ≡ image.now.cells }
     requires stack { call.stack.pages ≡ STACK_PAGES }
     ensures data { HasData image.now book.new.writable book.new.fixed }
     ensures room { book.new.history.room + 1 ≡ book.old.history.room }
-    ensures place { P.place result ≡ P.place pages }
-    ensures cells { P.cells result ≡ P.cells pages }
+    ensures place { (P.view result).place ≡ (P.view pages).place }
+    ensures cells { (P.view result).cells ≡ (P.view pages).cells }
 {
     run_call(pages, bytes, image, book, call, &words_of(args), 4_000)
 }

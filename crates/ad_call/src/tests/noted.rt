@@ -8,7 +8,7 @@ pub enum Question {
     /// For the page of this address.
     Page(u64),
     /// For the local word at this entry.
-    Word(u64),
+    Cell(u64),
 }
 
 /// Pages that note what they are asked, in the room that there is.
@@ -31,13 +31,7 @@ impl Pages for NotedPages<'_> {
 
     type Origin = ();
 
-    ghost place = { λ p. p.mapping.place };
-
-    ghost cells = { λ p. p.mapping.cells.now };
-
-    ghost origin = { λ _. record {} };
-
-    ghost asked = { λ _. None };
+    ghost view = { λ p. record { place = p.mapping.place; cells = p.mapping.cells.now; origin = record {}; asked = None } };
 
     fn page(&mut self, va: u64) -> Option<u64> {
         NotedPages::note(&mut self.questions, Question::Page(va));
@@ -45,7 +39,7 @@ impl Pages for NotedPages<'_> {
     }
 
     fn cell(&mut self, entry: u64) -> u64 {
-        NotedPages::note(&mut self.questions, Question::Word(entry));
+        NotedPages::note(&mut self.questions, Question::Cell(entry));
         self.mapping.cell(entry)
     }
 }

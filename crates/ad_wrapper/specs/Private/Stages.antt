@@ -1,5 +1,5 @@
 -- The three stages of a call: it begins, it runs, it ends.
-use Rattle.std.specs.Prelude.{◌≡◌, ℕ, ◌+◌, ◌<◌, ◌≤◌, true, [], ◌∷◌, ◌++◌, length, map, slice_get, IsSomeAnd, Some}
+use Rattle.std.specs.Prelude.{◌≡◌, ◌+◌, ◌<◌, ◌≤◌, true, [], ◌∷◌, ◌++◌, length, map, slice_get, IsSomeAnd, Some}
 use Rattle.ad_base.specs.declared.image.Image.{Image}
 use Rattle.ad_base.specs.Book.{contents_of}
 use Rattle.ad_call.specs.Asked.{asked_in_call}
@@ -18,11 +18,11 @@ use Rattle.ad_wrapper.specs.Performed.{call_for, drawn_once}
 use Rattle.ad_wrapper.specs.declared.hands.Hands.{Hands}
 use Rattle.ad_wrapper.specs.declared.hands.Ready.{Ready}
 use Rattle.ad_wrapper.specs.declared.shared.Shared.{Shared}
-use Rattle.ad_wrapper.specs.declared.stages.Under.{Under}
+use Rattle.ad_wrapper.specs.declared.stages.OpenCall.{OpenCall}
 
 -- The worker is inside the module of its step, holds a stack, and has the module's book, as it was when its turn began, with
 -- room for one entry more.
-pub record IsUnder (s : Shared) (step : Ready) (u : Under) : Type 0 where
+pub record IsUnder (s : Shared) (step : Ready) (u : OpenCall) : Type 0 where
   pub in_maps : u.inside.seat.table ≡ s.maps.table
   pub of_module : u.inside.of_module ≡ step.«module»
   pub is_place : IsPlaceOf s.maps.shape step.«module» u.inside.place
@@ -35,7 +35,7 @@ pub record IsUnder (s : Shared) (step : Ready) (u : Under) : Type 0 where
   pub lengths : IsSomeAnd (slice_get s.turns.openings step.«module») (λ opening. HaveLengths opening u.held.book)
 
 -- The call began with these hands.
-pub record Began (before : Hands) (step : Ready) (u : Under) : Type 0 where
+pub record Began (before : Hands) (step : Ready) (u : OpenCall) : Type 0 where
   pub worker : u.worker ≡ before.worker
   pub table : u.inside.seat.table ≡ before.seat.table
   pub seat_worker : u.inside.seat.worker ≡ before.seat.worker
@@ -48,7 +48,7 @@ pub record Began (before : Hands) (step : Ready) (u : Under) : Type 0 where
   pub entries : length u.held.book.history.entries ≡ u.held.ticket
 
 -- The call ran.
-pub record Ran (s : Shared) (step : Ready) (before after : Under) : Type 0 where
+pub record Ran (s : Shared) (step : Ready) (before after : OpenCall) : Type 0 where
   pub image : Image
   pub loaded : slice_get s.images step.«module» ≡ Some image
   pub worker : after.worker ≡ before.worker
@@ -62,7 +62,7 @@ pub record Ran (s : Shared) (step : Ready) (before after : Under) : Type 0 where
   pub lengths : HaveLengths before.held.book after.held.book
 
 -- The book may be given back, and what the worker has in hand is of these tables.
-pub record IsOver (s : Shared) (u : Under) : Type 0 where
+pub record IsOver (s : Shared) (u : OpenCall) : Type 0 where
   pub in_maps : u.inside.seat.table ≡ s.maps.table
   pub in_stacks : u.stack.seat.table ≡ s.stacks.table
   pub in_turns : u.held.seat.table ≡ s.turns.table
@@ -71,7 +71,7 @@ pub record IsOver (s : Shared) (u : Under) : Type 0 where
   pub lengths : HaveLengths u.held.before u.held.book
 
 -- The call ended, and left these hands.
-pub record Ended (u : Under) (after : Hands) : Type 0 where
+pub record Ended (u : OpenCall) (after : Hands) : Type 0 where
   pub worker : after.worker ≡ u.worker
   pub table : after.seat.table ≡ u.inside.seat.table
   pub seat_worker : after.seat.worker ≡ u.inside.seat.worker

@@ -1,4 +1,4 @@
-use Rattle.std.proofs.Common.{◌≡◌, ◌+◌, ◌++◌, ◌∙◌, [], ap, refl, rules, sym, Some}
+use Rattle.std.proofs.Common.{◌≡◌, ◌++◌, ◌∙◌, [], ap, refl, rules, sym}
 use Rattle.std.specs.Prelude.{unwrap_or}
 use Rattle.std.proofs.lemmas.List.Elements.{All-get_or}
 use Rattle.std.proofs.lemmas.Option.{get_or_from_slice_get, slice_get_within}
@@ -34,7 +34,7 @@ returns c =
     λ j. asked_in_call image fuel (contents_of (c.book.ensures.value j)) (call_for before.worker step (c.place.ensures j) (c.place-2.ensures.value j)) step.args in
     let called-same : after_call image fuel (contents_of c.book.result.now) call step.args ≡ after_call image fuel (contents_of before.held.book) (call_for before.worker step before.inside.place before.stack.place) step.args =
     λ j. after_call image fuel (contents_of (c.book.ensures.value j)) (call_for before.worker step (c.place.ensures j) (c.place-2.ensures.value j)) step.args in
-    let origin = ran.ensures.origin in
+    let origin = ap (λ v. v.origin) ran.ensures.pages in
     let given : HasData image before.held.book.writable before.held.book.fixed = search rules in
     record {
       image = image;
@@ -42,7 +42,7 @@ returns c =
       worker = refl;
       table = ap (λ seat. seat.table) origin;
       seat_worker = ap (λ seat. seat.worker) origin;
-      acts = acts-grew before.inside.seat.acts ran.result.inside.seat.acts _ (ap (λ seat. seat.acts) origin) (ap (λ told. unwrap_or told []) ran.ensures.asked ∙ ap (λ list. (asking before.inside.seat.acts).asked ++ list) asked-same);
+      acts = acts-grew before.inside.seat.acts ran.result.inside.seat.acts _ (ap (λ seat. seat.acts) origin) (ap (λ v. unwrap_or v.asked []) ran.ensures.pages ∙ ap (λ list. (asking before.inside.seat.acts).asked ++ list) asked-same);
       stack = refl;
       turn = refl;
       called = ran.ensures.after ∙ called-same;

@@ -1,4 +1,4 @@
-//! What an access finds that isn't the most common one: it may be to region 1, or to any piece.
+//! What an access to any address finds: to region 1, or to a byte of any piece.
 
 ghost use Rattle.ad_base.specs.Segments.{Fetch, Load, Store};
 ghost use Rattle.ad_call.specs.Private.Asks.{told_asked};
@@ -6,7 +6,8 @@ ghost use Rattle.ad_call.specs.Private.InPieces.{segments_in};
 ghost use Rattle.ad_core.specs.Bus.{IsLoaded, IsStored};
 ghost use Rattle.ad_core.specs.Memory.{fetched, loaded, stored};
 ghost use Rattle.ad_isa.specs.Words.{IsSize};
-ghost use Rattle.std.specs.Prelude.{◌≡◌, ◌%◌, ◌^◌, ◌<◌, ◌++◌, option_map, IfOk};
+ghost use Rattle.ad_call.specs.View.{with_asked};
+ghost use Rattle.std.specs.Prelude.{◌≡◌, ◌%◌, ◌^◌, ◌<◌, IfOk};
 
 use crate::pages::Pages;
 use crate::pieces::Pieces;
@@ -16,15 +17,11 @@ use ad_core::{Fetched, Refusal, service_at};
 
 /// What is found where an instruction is fetched, at the gate, a service or a byte of any piece.
 #[inline(never)]
-pub fn fetch_elsewhere<P: Pages>(pages: &mut P, pieces: &Pieces, at: u64) -> Fetched
+pub fn fetch_any<P: Pages>(pages: &mut P, pieces: &Pieces, at: u64) -> Fetched
     requires aligned { at % FETCH_BYTES ≡ 0 }
-    requires place { P.place pages.old ≡ pieces.now.under }
+    requires place { (P.view pages.old).place ≡ pieces.now.under }
     ensures found { result ≡ fetched (segments_in pieces.now) at }
-    ensures place { P.place pages.new ≡ P.place pages.old }
-    ensures cells { P.cells pages.new ≡ P.cells pages.old }
-    ensures origin { P.origin pages.new ≡ P.origin pages.old }
-    ensures asked { P.asked pages.new ≡ option_map
-        (λ list. list ++ told_asked pieces.now.image.now pieces.now.under pieces.now.stack Fetch FETCH_BYTES at) (P.asked pages.old) }
+    ensures pages { P.view pages.new ≡ with_asked (P.view pages.old) (told_asked pieces.now.image.now pieces.now.under pieces.now.stack Fetch FETCH_BYTES at) }
 {
     if at == GATE {
         return Fetched::Gate;
@@ -40,23 +37,14 @@ pub fn fetch_elsewhere<P: Pages>(pages: &mut P, pieces: &Pieces, at: u64) -> Fet
 
 /// Loads so many bytes as a number, from a byte of any piece.
 #[inline(never)]
-pub fn load_elsewhere<P: Pages>(
-    pages: &mut P,
-    pieces: &Pieces,
-    at: u64,
-    size: u8,
-) -> Result<u64, Refusal>
+pub fn load_any<P: Pages>(pages: &mut P, pieces: &Pieces, at: u64, size: u8) -> Result<u64, Refusal>
     requires size { IsSize size }
     requires aligned { at % size ≡ 0 }
-    requires place { P.place pages.old ≡ pieces.now.under }
-    requires cells { P.cells pages.old ≡ pieces.now.image.now.cells }
+    requires place { (P.view pages.old).place ≡ pieces.now.under }
+    requires cells { (P.view pages.old).cells ≡ pieces.now.image.now.cells }
     ensures found { IsLoaded result (loaded size (segments_in pieces.now) at) }
     ensures fits { IfOk result (λ number. number < 256 ^ size) }
-    ensures place { P.place pages.new ≡ P.place pages.old }
-    ensures cells { P.cells pages.new ≡ P.cells pages.old }
-    ensures origin { P.origin pages.new ≡ P.origin pages.old }
-    ensures asked { P.asked pages.new ≡ option_map
-        (λ list. list ++ told_asked pieces.now.image.now pieces.now.under pieces.now.stack Load size at) (P.asked pages.old) }
+    ensures pages { P.view pages.new ≡ with_asked (P.view pages.old) (told_asked pieces.now.image.now pieces.now.under pieces.now.stack Load size at) }
 {
     if at / REGION_BYTES == 1 {
         return Err(Refusal::Fault);
@@ -69,7 +57,7 @@ pub fn load_elsewhere<P: Pages>(
 
 /// Stores so many low bytes of a value, to a byte of any piece.
 #[inline(never)]
-pub fn store_elsewhere<P: Pages>(
+pub fn store_any<P: Pages>(
     pages: &mut P,
     pieces: &mut Pieces,
     at: u64,
@@ -78,16 +66,12 @@ pub fn store_elsewhere<P: Pages>(
 ) -> Result<(), Refusal>
     requires size { IsSize size }
     requires aligned { at % size ≡ 0 }
-    requires place { P.place pages.old ≡ pieces.old.under }
+    requires place { (P.view pages.old).place ≡ pieces.old.under }
     ensures segments { IsStored result (segments_in pieces.old) (segments_in pieces.new) (stored size value (segments_in pieces.old) at) }
     ensures image { pieces.new.image.now ≡ pieces.old.image.now }
     ensures under { pieces.new.under ≡ pieces.old.under }
     ensures stack { pieces.new.stack ≡ pieces.old.stack }
-    ensures place { P.place pages.new ≡ P.place pages.old }
-    ensures cells { P.cells pages.new ≡ P.cells pages.old }
-    ensures origin { P.origin pages.new ≡ P.origin pages.old }
-    ensures asked { P.asked pages.new ≡ option_map
-        (λ list. list ++ told_asked pieces.old.image.now pieces.old.under pieces.old.stack Store size at) (P.asked pages.old) }
+    ensures pages { P.view pages.new ≡ with_asked (P.view pages.old) (told_asked pieces.old.image.now pieces.old.under pieces.old.stack Store size at) }
 {
     if at / REGION_BYTES == 1 {
         return Err(Refusal::Fault);

@@ -1,6 +1,7 @@
-use Rattle.std.proofs.Common.{rules, get_or, length, Some, ◌+◌, ◌*◌, ◌%◌, ◌^◌, ◌∙◌, sym, ap, arith}
+use Rattle.std.proofs.Common.{rules, get_or, length, [], ◌∷◌, Some, ◌+◌, ◌*◌, ◌%◌, ◌^◌, ◌∙◌, sym, ap, arith}
 use Rattle.std.specs.Prelude.{◌++◌, option_map}
 use Rattle.std.proofs.lemmas.Option.{slice_get-get_or}
+use Rattle.ad_base.specs.declared.book.Entry.{Entry}
 use Rattle.ad_base.specs.declared.layout.TheConstants.{PAGE_BYTES, STACK_PAGES}
 use Rattle.ad_base.specs.Book.{contents_of}
 use Rattle.ad_base.specs.Place.{base_of}
@@ -11,7 +12,7 @@ use Rattle.ad_core.proofs.Stay.{called_extents}
 use Rattle.ad_call.specs.Call.{HasData}
 use Rattle.ad_call.proofs.Asks.{keeps}
 use Rattle.ad_call.proofs.Calls.{IsGiven, Left, call_made, has_data, memory_of, offset_there, run_asks, same_run}
-use Rattle.ad_call.proofs.call.run_on.Goals as goal
+use Rattle.ad_call.proofs.call.run_call.Goals as goal
 
 pub invariant_of-pieces : goal.invariant_of-pieces
 invariant_of-pieces g c = record {
@@ -43,7 +44,7 @@ returns g c =
     let fixed = c.take.result in
     let writable = c.take-2.result in
     let notes = c.new-2.result in
-    let device = c.replace.result in
+    let device = c.replace-device.result in
     let fresh = c.fresh.result in
     let given : IsGiven image book call entry sp notes writable fixed device = record {
       entry_is = ap (λ b. (b + export.offset) % 2 ^ 64) c.base.ensures.value ∙ ap (λ x. (base_of call.under + x) % 2 ^ 64) (sym (offset_there image call.export export there));
@@ -51,15 +52,14 @@ returns g c =
       no_note = c.new-2.ensures;
       writable_is = c.take-2.ensures.taken;
       fixed_is = c.take.ensures.taken;
-      device_is = c.replace.ensures.value;
+      device_is = c.replace-device.ensures.value;
     } in
     let before = memory_of image call.under call.stack fresh.stack fresh.fixed fresh.writable notes device in
     let same = same_run image fuel book call args entry sp notes writable fixed device given fresh c.fresh.ensures in
-    let left : Left image fuel book call args pieces.image.now pieces.under pieces.stack c.call-end.result pieces.bytes.stack bus.notes pieces.bytes.writable pieces.bytes.fixed bus.device c.copy.result c.push.new.self.entries = record {
+    let left : Left image fuel book call args pieces.image.now pieces.under pieces.stack c.call-end.result pieces.bytes.stack bus.notes pieces.bytes.writable pieces.bytes.fixed bus.device c.push.new.self.entries = record {
       end_is = c.call-end.ensures.end ∙ ap (λ (o : PlainOutcome). o.end) same;
       memory = c.call-end.ensures.memory ∙ ap (λ (o : PlainOutcome). o.memory) same;
-      copied = c.copy.ensures;
-      appended = c.push.ensures.entries;
+      appended = c.push.ensures.entries ∙ ap (λ (e : Entry). book.entries ++ e ∷ []) c.made_entry.ensures;
     } in
     let had : HasData image fresh.writable fresh.fixed = record {
       movable = ap (λ h. length h.writable) c.fresh.ensures ∙ ap length c.take-2.ensures.taken ∙ c.requires.data.movable;
@@ -69,13 +69,14 @@ returns g c =
     let has = has_data image pieces.image.now image call.under call.stack pieces.under pieces.stack fresh.stack fresh.fixed fresh.writable pieces.bytes.stack pieces.bytes.fixed pieces.bytes.writable stay had in
     let kept = keeps (plain_call fuel entry args sp before).accesses _ _ c.call-end.ensures.track in
     record {
-      after = (λ j. record { writable = c.into_parts-stack.ensures.writable j; fixed = c.into_parts-stack.ensures.fixed j; device = bus.device; entries = c.push.new.self.entries })
-          ∙ call_made image fuel book call args pieces.image.now pieces.under pieces.stack c.call-end.result pieces.bytes.stack bus.notes pieces.bytes.writable pieces.bytes.fixed bus.device c.copy.result c.push.new.self.entries left;
-      «data» = record { movable = ap length c.into_parts-stack.ensures.writable ∙ has.movable; immovable = ap length c.into_parts-stack.ensures.fixed ∙ has.immovable };
+      after = (λ j. record { writable = c.into_parts.ensures.writable j; fixed = c.into_parts.ensures.fixed j; device = bus.device; entries = c.push.new.self.entries })
+          ∙ call_made image fuel book call args pieces.image.now pieces.under pieces.stack c.call-end.result pieces.bytes.stack bus.notes pieces.bytes.writable pieces.bytes.fixed bus.device c.push.new.self.entries left;
+      «data» = record { movable = ap length c.into_parts.ensures.writable ∙ has.movable; immovable = ap length c.into_parts.ensures.fixed ∙ has.immovable };
       room = search rules;
-      place = bus.place ∙ kept.under ∙ sym c.requires.under;
-      cells = bus.cells ∙ ap (λ i. i.cells) kept.image ∙ sym c.requires.cells;
-      origin = kept.origin;
-      asked = kept.asked ∙ ap (λ more. option_map (λ l. l ++ more) (g.P.Pages.asked c.args.pages)) (run_asks image fuel book call args entry sp notes writable fixed device given fresh c.fresh.ensures);
-      long = ap length c.into_parts-stack.ensures.stack ∙ pieces.fresh;
+      pages = λ j. record {
+        place = (bus.place ∙ kept.under ∙ sym c.requires.under) j;
+        cells = (bus.cells ∙ ap (λ i. i.cells) kept.image ∙ sym c.requires.cells) j;
+        origin = kept.origin j;
+        asked = (kept.asked ∙ ap (λ more. option_map (λ l. l ++ more) (g.P.Pages.view c.args.pages).asked) (run_asks image fuel book call args entry sp notes writable fixed device given fresh c.fresh.ensures)) j;
+      };
     }
