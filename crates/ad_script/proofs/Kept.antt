@@ -106,7 +106,7 @@ kept_form words said number (Stacks worker) first few is none h =
     after_step said number first few h _ refl caller
 
 -- a value behind a cause comes where there is none
-unless_ok : {A : Type 0} (cause : Option Cause) (value : Result A Cause) (a : A) → unless cause value ≡ Ok a → (cause ≡ None) × (value ≡ Ok a)
+pub unless_ok : {A : Type 0} (cause : Option Cause) (value : Result A Cause) (a : A) → unless cause value ≡ Ok a → (cause ≡ None) × (value ≡ Ok a)
 unless_ok None value a e = (refl, e)
 unless_ok (Some cause) value a e = absurd cc
 

@@ -1,3 +1,4 @@
+pub mod Accepted
 pub mod FirstBad
 pub mod InRange
 pub mod Kept

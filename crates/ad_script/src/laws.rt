@@ -5,7 +5,7 @@ ghost use Rattle.std.specs.Str.{IsUtf8};
 ghost use Rattle.ad_script.specs.declared.script.Script.{Script};
 ghost use Rattle.ad_script.specs.declared.refusal.Cause.{Cause};
 ghost use Rattle.ad_script.specs.Forms.{is_file_name};
-ghost use Rattle.ad_script.specs.Laws.{IsFirstBadLine};
+ghost use Rattle.ad_script.specs.Laws.{IsFirstBadLine, IsScript};
 ghost use Rattle.ad_script.specs.Range.{IsInRange};
 ghost use Rattle.ad_script.specs.Script.{script_of};
 
@@ -15,6 +15,13 @@ use crate::script::{ARGUMENTS, SCRIPT_LINES};
 /// The numbers that a script says are in range.
 pub fn law_in_range()
     ensures { (bytes : List ℕ) (s : Script) → script_of bytes ≡ Ok s → IsInRange s }
+{}
+
+/// A text is a script exactly where none of its lines has a cause behind the lines before it. How many workers there are, the
+/// modules and the steps are then what its lines say, each by itself, in their order.
+pub fn law_accepted()
+    ensures says { (text : List ℕ) (s : Script) → script_of text ≡ Ok s → IsScript text s }
+    ensures read { (text : List ℕ) (s : Script) → IsScript text s → script_of text ≡ Ok s }
 {}
 
 /// A text is refused at its first bad line, with the first cause why that is refused behind the lines before it.

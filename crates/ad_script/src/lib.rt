@@ -12,7 +12,7 @@ mod said;
 mod script;
 mod text;
 
-pub use laws::{law_first_bad_line, law_in_range, law_most};
+pub use laws::{law_accepted, law_first_bad_line, law_in_range, law_most};
 pub use names::file_text;
 pub use read::read_script;
 pub use refusal::{Cause, ScriptRefusal};

@@ -1,8 +1,8 @@
 //! Texts that are scripts, with what they say, and texts that are refused, each with its line and its cause.
 
 use crate::{
-    ARGUMENTS, Cause, Load, SCRIPT_LINES, Script, ScriptRefusal, Step, law_first_bad_line,
-    law_in_range, law_most, read_script,
+    ARGUMENTS, Cause, Load, SCRIPT_LINES, Script, ScriptRefusal, Step, law_accepted,
+    law_first_bad_line, law_in_range, law_most, read_script,
 };
 use std::alloc::Global;
 use std::fmt::Write;
@@ -51,7 +51,7 @@ fn write_step(text: &mut String, step: &Step) -> Result<(), Fail> {
 }
 
 /// Texts of scripts, and what they say.
-const SCRIPTS: [(&[u8], &str); 36] = [
+const SCRIPTS: [(&[u8], &str); 38] = [
     // Lines that say nothing.
     (b"", "workers 1"),
     (b"\n", "workers 1"),
@@ -98,6 +98,10 @@ const SCRIPTS: [(&[u8], &str); 36] = [
         b"load abcdefghijklmnopqrstuvwxyzABCDEF f",
         "workers 1; 1 load abcdefghijklmnopqrstuvwxyzABCDEF f",
     ),
+    (
+        b"load abcdefghijklmnopqrstuvwxyzABCDEF f\nmove abcdefghijklmnopqrstuvwxyzABCDEF\ncall 0 abcdefghijklmnopqrstuvwxyzABCDEF.e",
+        "workers 1; 1 load abcdefghijklmnopqrstuvwxyzABCDEF f; 2 move 0; 3 call 0 0.e",
+    ),
     (b"load m !~", "workers 1; 1 load m !~"),
     (
         b"load load load\ncall 0 load.call\nmove load",
@@ -121,6 +125,7 @@ const SCRIPTS: [(&[u8], &str); 36] = [
         "workers 3; 2 stack 2; 3 stack 0; 4 stack 2",
     ),
     (b"stack 0", "workers 1; 1 stack 0"),
+    (b"workers 64\nstack 63", "workers 64; 2 stack 63"),
     (
         b"load m f\nload M f\ncall 0 M.e",
         "workers 1; 1 load m f; 2 load M f; 3 call 0 1.e",
@@ -136,7 +141,7 @@ const SCRIPTS: [(&[u8], &str); 36] = [
 ];
 
 /// Texts that are refused: the line, and the cause.
-const REFUSED: [(&[u8], u64, Cause); 98] = [
+const REFUSED: [(&[u8], u64, Cause); 104] = [
     // A byte is no text: also in comments, behind words and in lines without words.
     (b"\x00", 1, Cause::NotText),
     (b"\x1f", 1, Cause::NotText),
@@ -148,6 +153,10 @@ const REFUSED: [(&[u8], u64, Cause); 98] = [
     (b"\r\r\n", 1, Cause::NotText),
     (b"\r\r", 1, Cause::NotText),
     (b"workers\r2", 1, Cause::NotText),
+    (b"\rworkers 2", 1, Cause::NotText),
+    (b"workers 2\r \n", 1, Cause::NotText),
+    (b"load m f\nmove m\r\r\n", 2, Cause::NotText),
+    (b"# a\rb", 1, Cause::NotText),
     (b"load m f\x0b", 1, Cause::NotText),
     (b"load\x00m f g", 1, Cause::NotText),
     // The words are those of no line.
@@ -189,6 +198,11 @@ const REFUSED: [(&[u8], u64, Cause); 98] = [
     (b"stack 0\nworkers x", 2, Cause::LateLoad),
     (b"workers 2\nstack 0\nworkers 2", 3, Cause::LateLoad),
     (b"stack 0\nload 1m f", 2, Cause::Word),
+    (
+        b"load a f\nload b f\nload c f\nload d f\nload e f\nload f f\nload g f\nload h f\nstack 0\nload i f",
+        10,
+        Cause::LateLoad,
+    ),
     // Numbers.
     (b"workers 0", 1, Cause::Number),
     (b"workers 65", 1, Cause::Number),
@@ -265,6 +279,7 @@ const REFUSED: [(&[u8], u64, Cause); 98] = [
     ),
     // The first bad line counts.
     (b"\nfoo\n\x00\n", 2, Cause::Word),
+    (b"\r\n\r\nfoo\r\n", 3, Cause::Word),
     (b"workers 2\nload m f\n\nmove n\nfoo\n", 4, Cause::Module),
 ];
 
@@ -310,7 +325,7 @@ fn stacks(alloc: Global, count: u64, last: &[u8]) -> Result<Vec<u8>, Fail> {
 fn has_at_most_20_000_lines(rt: HostRuntime) -> Result<(), Fail> {
     assert_eq!(rt; SCRIPT_LINES, 20_000);
     assert_eq!(rt; ARGUMENTS, 8);
-    let cases: [(u64, &[u8], Option<Cause>); 8] = [
+    let cases: [(u64, &[u8], Option<Cause>); 9] = [
         (20_000, b"", None),
         (20_000, b"\r", Some(Cause::TooMany)),
         (0, b"", None),
@@ -318,6 +333,7 @@ fn has_at_most_20_000_lines(rt: HostRuntime) -> Result<(), Fail> {
         (20_000, b"stack 0", Some(Cause::TooMany)),
         (20_000, b"\n", Some(Cause::TooMany)),
         (20_000, b"# x", Some(Cause::TooMany)),
+        (20_000, b"foo", Some(Cause::TooMany)),
         (20_000, b"# \x07", Some(Cause::NotText)),
     ];
     for (count, last, cause) in cases {
@@ -363,6 +379,7 @@ fn laws_are_called() {
     law_first_bad_line();
     law_in_range();
     law_most();
+    law_accepted();
 }
 
 #[test]
