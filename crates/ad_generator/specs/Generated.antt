@@ -18,7 +18,7 @@ load_of line m = record { line = line; name = m.name; file = file_name m }
 abbrev pub generated_loads : List Load
 generated_loads = load_of 2 sum ∷ load_of 3 cnt ∷ load_of 4 dev ∷ load_of 5 tab ∷ []
 
--- the number of the line of step k, behind the loads
+-- the number of the line of step k: that of the workers comes first, and then the loads
 abbrev pub step_line : ℕ → ℕ
 step_line k = k + 6
 
@@ -50,13 +50,13 @@ module_in name = find (λ (m : Module). bytes_eq (file_name m) name) modules
 abbrev pub built_named : List ℕ → List ℕ
 built_named name = option_map_or file (module_in name) []
 
--- What a step names is there: a call is of the export of the built module of its number.
+-- A call is of the export of the built module of its number.
 abbrev pub IsOfBuilt : Step → Type 0
 IsOfBuilt (Call line worker «module» export args) = (m : Module) × (slice_get modules «module» ≡ Some m) × (export ≡ m.export)
 IsOfBuilt (Move line moved) = Unit {0}
 IsOfBuilt (Stack line worker) = Unit {0}
 
--- the steps of eight lines
+-- the steps of seven calls and a move
 abbrev pub worked_steps : List Step
 worked_steps =
     Call 6 0 0 sum.export (0 ∷ 1 ∷ [])

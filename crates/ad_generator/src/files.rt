@@ -14,7 +14,7 @@ use std::alloc::Global;
 /// data; 2 `dev`, which writes to the queue of its device and reads from there; 3 `tab`, which jumps by a table of addresses.
 /// The one error is want of memory.
 ///
-/// The files are laid out as a compiler does. Instructions are in `.text`, which is aligned to 4 bytes, the word of
+/// Instructions are in `.text`, which is aligned to 4 bytes, the word of
 /// `cnt` in `.bss` and the table of `tab` in `.data.rel.ro`, both aligned to 8 and written to. Local symbols come first: the
 /// object of data, the label of the `auipc` that a low half refers to, and local functions. Then come the function that is
 /// exported and the services. Symbols of functions and of data have their size in bytes; addends are 0.

@@ -16,7 +16,7 @@ use std::alloc::Global;
 /// How many workers the script has.
 pub(crate) const SCRIPT_WORKERS: u64 = 4;
 
-/// The text of the script of so many lines behind the loads: the number of workers, a load of each module, and lines that call
+/// The text of the script of so many calls and moves: the number of workers, a load of each module, and lines that call
 /// and move them. Of eight lines the last is a move. The lines end with LF. The one error is want of memory.
 #[tactic(auto, unfolding(crate::specs::Script::script_text))]
 pub fn built_script(alloc: Global, n: u64) -> Result<Vec<u8>, OutOfMemory>
@@ -58,7 +58,7 @@ fn put_load(text: &mut String, module: BuiltModule) -> Result<(), OutOfMemory>
     Ok(())
 }
 
-/// Appends so many lines behind the loads.
+/// Appends so many calls and moves.
 fn put_lines(text: &mut String, n: u64) -> Result<(), OutOfMemory>
     ensures { OnOk result (string_bytes text.new ≡ string_bytes text.old ++ joined line_text n) }
 {

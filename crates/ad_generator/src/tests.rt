@@ -22,52 +22,7 @@ const SUM_FILE: [&str; 15] = [
     "2100000000000000000000000000000001000000000000000000000000000000",
 ];
 
-/// Where the text begins in each file, in bytes.
-const TEXT_FROM: usize = 64;
-
-/// The words of the text of the other modules.
-const TEXTS: [(u64, &[u32]); 3] = [
-    (
-        1,
-        &[
-            0x0000_0297,
-            0x0002_8293,
-            0x0002_b303,
-            0x0065_0533,
-            0x00a2_b023,
-            0x0000_8067,
-        ],
-    ),
-    (
-        2,
-        &[
-            0x0000_8393,
-            0x0000_0097,
-            0x0000_80e7,
-            0x0000_0097,
-            0x0000_80e7,
-            0x0003_8067,
-        ],
-    ),
-    (
-        3,
-        &[
-            0x0000_0297,
-            0x0002_8293,
-            0x0015_7513,
-            0x0035_1513,
-            0x00a2_82b3,
-            0x0002_b283,
-            0x0002_8067,
-            0x00a0_0513,
-            0x0000_8067,
-            0x0140_0513,
-            0x0000_8067,
-        ],
-    ),
-];
-
-/// The script of eight lines behind the loads.
+/// The script of seven calls and a move.
 const SCRIPT: &str = "workers 4\n\
     load sum sum.o\n\
     load cnt cnt.o\n\
@@ -112,23 +67,6 @@ fn the_file_of_sum(rt: HostRuntime) -> Result<(), Fail> {
 }
 
 #[test]
-fn the_words_of_the_other_texts(rt: HostRuntime) -> Result<(), Fail> {
-    for (number, words) in TEXTS {
-        let file = file(&rt, number)?;
-        let mut expected = Vec::new(rt.alloc());
-        for word in words {
-            expected.extend_from_slice(&word.to_le_bytes())?;
-        }
-        let text = file
-            .as_slice()
-            .get(TEXT_FROM..)
-            .ok_or("bytes behind the header")?;
-        assert!(rt; text.starts_with(expected.as_slice()), "{number}");
-    }
-    Ok(())
-}
-
-#[test]
 fn files_by_name(rt: HostRuntime) -> Result<(), Fail> {
     for (number, name) in [(0, "sum.o"), (1, "cnt.o"), (2, "dev.o"), (3, "tab.o")] {
         let named = built_named(rt.alloc(), name)?;
@@ -141,7 +79,7 @@ fn files_by_name(rt: HostRuntime) -> Result<(), Fail> {
 }
 
 #[test]
-fn the_script_of_eight_lines(rt: HostRuntime) -> Result<(), Fail> {
+fn the_script_of_seven_calls_and_a_move(rt: HostRuntime) -> Result<(), Fail> {
     let text = built_script(rt.alloc(), 8)?;
     assert_eq!(rt; std::str::from_utf8(text.as_slice())?, SCRIPT);
     Ok(())

@@ -1,13 +1,10 @@
 -- What one thing more that is said makes of what was read.
-use Rattle.std.proofs.Common.{◌≡◌, ◌≤◌, ◌<◌, ℕ, Bool, true, false, List, [], ◌∷◌, ◌++◌, length, map, Option, None, Some, MatchOption, get_or, codes, cond, refl, arith, Bor, option_copied, option_to_list, is_some}
+use Rattle.std.proofs.Common.{◌≡◌, ◌≤◌, ◌<◌, ℕ, Bool, true, false, List, [], ◌∷◌, ◌++◌, length, map, Option, None, Some, MatchOption, get_or, cond, refl, ap, arith, option_copied, option_to_list}
 use Rattle.std.specs.List.{list_all}
 use Rattle.ad_words.specs.declared.told.Told.{Told}
-use Rattle.ad_words.specs.Private.Heard.{Hears, command_heard}
-use Rattle.ad_words.specs.Words.{Command, Given, Operand, Said, command_with, fuel_option, is_of_task, number_of, only, operands, seed_option, values}
-
-pub none_told : {A : Type 0} (value : Option A) → is_some value ≡ false → value ≡ None
-none_told None e = refl
-none_told (Some x) e = cc
+use Rattle.ad_words.specs.declared.told.Values.{Values}
+use Rattle.ad_words.specs.Private.Heard.{Hears, command_heard, values_heard}
+use Rattle.ad_words.specs.Words.{Command, Given, Operand, Said, command_with, is_of_task, only, operands, settings_of}
 
 -- a refusal stays one behind a test
 refused : (test : Bool) (command : Option Command) → command ≡ None → cond test command None ≡ None
@@ -19,15 +16,25 @@ pub of_another_task : (task : List ℕ) (old : Told) (one : Said) → is_of_task
     → (said : List Said) → command_heard task old (one ∷ said) ≡ None
 of_another_task task old one other said = rw other
 
-pub first_seed : (task : List ℕ) (old : Told) (name : List ℕ) (value : Bor (List ℕ)) → old.seed ≡ None → name ≡ codes "seed"
-    → is_of_task task (Given name value.now) ≡ true
-    → (said : List Said) → command_heard task old (Given name value.now ∷ said) ≡ command_heard task (record old { seed = Some value }) said
-first_seed task old name value none named belongs said = rw (belongs, none, named)
+-- an option whose value was read is as if it were still said
+pub value_heard : (task : List ℕ) (old : Told) (name value : List ℕ) (given : Values) → is_of_task task (Given name value) ≡ true
+    → ((said : List Said) → values_heard old.values (Given name value ∷ said) ≡ values_heard given said)
+    → (said : List Said) → command_heard task old (Given name value ∷ said) ≡ command_heard task (record old { values = given }) said
+value_heard task old name value given belongs same said =
+    rw belongs (ap (λ heard. cond (list_all (is_of_task task) said)
+    (command_with task (only (option_to_list (option_copied old.operand) ++ operands said)) (settings_of heard)) None) (same said))
 
-pub first_fuel : (task : List ℕ) (old : Told) (name : List ℕ) (value : Bor (List ℕ)) → old.fuel ≡ None → name ≡ codes "fuel"
-    → is_of_task task (Given name value.now) ≡ true
-    → (said : List Said) → command_heard task old (Given name value.now ∷ said) ≡ command_heard task (record old { fuel = Some value }) said
-first_fuel task old name value none named belongs said = rw (belongs, none, named)
+-- an option that leaves no numbers leaves no command
+pub value_refused : (task : List ℕ) (old : Told) (name value : List ℕ)
+    → ((said : List Said) → settings_of (values_heard old.values (Given name value ∷ said)) ≡ None)
+    → (said : List Said) → command_heard task old (Given name value ∷ said) ≡ None
+value_refused task old name value none said =
+    refused (list_all (is_of_task task) (Given name value ∷ said)) _
+    (rw (none said) (no_numbers (only (option_to_list (option_copied old.operand) ++ operands said))))
+  where
+    no_numbers : (operand : Option (List ℕ)) → command_with task operand None ≡ None
+    no_numbers None = refl
+    no_numbers (Some word) = refl
 
 -- one word that is an operand
 pub one_operand : {A : Type 0} (text : A → List ℕ) (task : List ℕ) (old : Told) (words : List A) (word : A) (new : Option Told)
@@ -45,5 +52,6 @@ pub many_operands : {A : Type 0} (text : A → List ℕ) (task : List ℕ) (old 
 many_operands text task old [] many = absurd (omega arith)
 many_operands text task old (first ∷ []) many = absurd (omega arith)
 many_operands text task old (first ∷ second ∷ more) many =
-    refused (list_all (is_of_task task) (map Operand (map text more))) _ (elim old.operand as (λ o.
-    command_with task (only (option_to_list (option_copied o) ++ (text first ∷ text second ∷ operands (map Operand (map text more))))) (number_of seed_option (option_to_list (option_copied old.seed) ++ values (codes "seed") (map Operand (map text more)))) (number_of fuel_option (option_to_list (option_copied old.fuel) ++ values (codes "fuel") (map Operand (map text more)))) ≡ None) [ None ↦ refl | Some word ↦ refl ])
+    refused (list_all (is_of_task task) (map Operand (map text more))) _ (elim old.operand as (λ operand.
+    command_with task (only (option_to_list (option_copied operand) ++ (text first ∷ text second ∷ operands (map Operand (map text more)))))
+    (settings_of (values_heard old.values (map Operand (map text (first ∷ second ∷ more))))) ≡ None) [ None ↦ refl | Some word ↦ refl ])

@@ -4,14 +4,16 @@ use Rattle.std.specs.List.{after_first, before_first, list_all, list_any, starts
 use Rattle.std.specs.Prelude.{nat_eq}
 use Rattle.std.specs.Str.{all_ascii_digits}
 use Rattle.std.specs.Str.Parse.{digits_value}
-use Rattle.ad_words.specs.declared.command.TheConstants.{FUEL, MOST_FUEL, MOST_GENERATED, SEED}
+use Rattle.ad_words.specs.declared.command.TheConstants.{FRAMES, FUEL, LEAST_FRAMES, MOST_FRAMES, MOST_FUEL, MOST_GENERATED, MOST_SLOTS, SEED, SLOTS}
 
 -- A command, by what is done:
---     Seq script seed fuel          the lines of a script are run one after another, with places from a seed and so many steps of each call at most
---     Predict script seed fuel      the symbolic machine says of each call of a script what comes of it, wherever the movable parts and the stacks lie
---     Show file                     what the image of a module's file has is shown
---     Gen number seed fuel          the script of so many lines over the modules that are built is run as one in a file is
+--     Run script seed fuel slots frames    the calls of each worker of a script are run beside those of the others and beside its moves, with so many slots for the workers and so many table frames for each module
+--     Seq script seed fuel                 the lines of a script are run one after another, with places from a seed and so many steps of each call at most
+--     Predict script seed fuel             the symbolic machine says of each call of a script what comes of it, wherever the movable parts and the stacks lie
+--     Show file                            what the image of a module's file has is shown
+--     Gen number seed fuel                 the script of so many calls and moves of the modules that are built is run as one in a file is
 pub data Command : Type 0 where
+  Run : List ℕ → ℕ → ℕ → ℕ → ℕ → Command
   Seq : List ℕ → ℕ → ℕ → Command
   Predict : List ℕ → ℕ → ℕ → Command
   Show : List ℕ → Command
@@ -32,7 +34,7 @@ pub record OptionRow : Type 0 where
 abbrev pub seed_option : OptionRow
 seed_option = record {
   name = codes "seed";
-  tasks = codes "seq" ∷ codes "predict" ∷ codes "gen" ∷ [];
+  tasks = codes "run" ∷ codes "seq" ∷ codes "predict" ∷ codes "gen" ∷ [];
   numbers = record { least = 0; most = 2 ^ 64 - 1 };
   default = SEED;
 }
@@ -40,13 +42,29 @@ seed_option = record {
 abbrev pub fuel_option : OptionRow
 fuel_option = record {
   name = codes "fuel";
-  tasks = codes "seq" ∷ codes "predict" ∷ codes "gen" ∷ [];
+  tasks = codes "run" ∷ codes "seq" ∷ codes "predict" ∷ codes "gen" ∷ [];
   numbers = record { least = 1; most = MOST_FUEL };
   default = FUEL;
 }
 
+abbrev pub slots_option : OptionRow
+slots_option = record {
+  name = codes "slots";
+  tasks = codes "run" ∷ [];
+  numbers = record { least = 1; most = MOST_SLOTS };
+  default = SLOTS;
+}
+
+abbrev pub frames_option : OptionRow
+frames_option = record {
+  name = codes "frames";
+  tasks = codes "run" ∷ [];
+  numbers = record { least = LEAST_FRAMES; most = MOST_FRAMES };
+  default = FRAMES;
+}
+
 abbrev pub all_options : List OptionRow
-all_options = seed_option ∷ fuel_option ∷ []
+all_options = seed_option ∷ fuel_option ∷ slots_option ∷ frames_option ∷ []
 
 -- how many lines a script is generated of
 abbrev pub generated_numbers : Numbers
@@ -116,6 +134,21 @@ values wanted [] = []
 values wanted (Operand word ∷ said) = values wanted said
 values wanted (Given name value ∷ said) = if bytes_eq name wanted then value ∷ values wanted said else values wanted said
 
+-- The values that each option is given.
+pub record Values : Type 0 where
+  pub seed : List (List ℕ)
+  pub fuel : List (List ℕ)
+  pub slots : List (List ℕ)
+  pub frames : List (List ℕ)
+
+abbrev pub values_said : List Said → Values
+values_said said = record {
+  seed = values seed_option.name said;
+  fuel = values fuel_option.name said;
+  slots = values slots_option.name said;
+  frames = values frames_option.name said;
+}
+
 -- an operand, or an option that belongs to the task
 abbrev pub is_of_task : List ℕ → Said → Bool
 is_of_task task (Operand word) = true
@@ -141,21 +174,39 @@ number_of option [] = Some option.default
 number_of option (value ∷ []) = number_taken option.numbers value
 number_of option (first ∷ second ∷ more) = None
 
--- the command of a task, with its operand and its numbers
-abbrev pub command_with : List ℕ → Option (List ℕ) → Option ℕ → Option ℕ → Option Command
-command_with task (Some operand) (Some seed) (Some fuel) =
-    if bytes_eq task (codes "seq") then Some (Seq operand seed fuel)
-    else if bytes_eq task (codes "predict") then Some (Predict operand seed fuel)
+-- The number of each option.
+pub record Settings : Type 0 where
+  pub seed : ℕ
+  pub fuel : ℕ
+  pub slots : ℕ
+  pub frames : ℕ
+
+-- these numbers, where there is each
+abbrev pub settings_with : Option ℕ → Option ℕ → Option ℕ → Option ℕ → Option Settings
+settings_with (Some seed) (Some fuel) (Some slots) (Some frames) = Some (record { seed = seed; fuel = fuel; slots = slots; frames = frames })
+settings_with seed fuel slots frames = None
+
+-- the numbers of the options that are given these values
+abbrev pub settings_of : Values → Option Settings
+settings_of given = settings_with (number_of seed_option given.seed) (number_of fuel_option given.fuel)
+    (number_of slots_option given.slots) (number_of frames_option given.frames)
+
+-- the command of a task, with its operand and the numbers of the options
+abbrev pub command_with : List ℕ → Option (List ℕ) → Option Settings → Option Command
+command_with task (Some operand) (Some settings) =
+    if bytes_eq task (codes "run") then Some (Run operand settings.seed settings.fuel settings.slots settings.frames)
+    else if bytes_eq task (codes "seq") then Some (Seq operand settings.seed settings.fuel)
+    else if bytes_eq task (codes "predict") then Some (Predict operand settings.seed settings.fuel)
     else if bytes_eq task (codes "show") then Some (Show operand)
-    else if bytes_eq task (codes "gen") then option_map (λ number. Gen number seed fuel) (number_taken generated_numbers operand)
+    else if bytes_eq task (codes "gen") then option_map (λ number. Gen number settings.seed settings.fuel) (number_taken generated_numbers operand)
     else None
-command_with task operand seed fuel = None
+command_with task operand settings = None
 
 -- the command of a task with all that is said behind it
 abbrev pub command_said : List ℕ → List Said → Option Command
 command_said task said =
     if list_all (is_of_task task) said
-    then command_with task (only (operands said)) (number_of seed_option (values (codes "seed") said)) (number_of fuel_option (values (codes "fuel") said))
+    then command_with task (only (operands said)) (settings_of (values_said said))
     else None
 
 -- The grammar: the command of a list of words, or none.

@@ -4,13 +4,20 @@ ghost use Rattle.std.specs.Prelude.{◌≡◌, ℕ, List, IfSome};
 ghost use Rattle.ad_words.specs.Laws.{IsInRange, TakesAnyOperand, TakesBothForms};
 ghost use Rattle.ad_words.specs.Words.{command_of};
 
-use crate::command::{FUEL, MOST_FUEL, MOST_GENERATED, SEED};
+use crate::command::{
+    FRAMES, FUEL, LEAST_FRAMES, MOST_FRAMES, MOST_FUEL, MOST_GENERATED, MOST_SLOTS, SEED, SLOTS,
+};
 
-/// The numbers that a command takes where its words say none, the most fuel, and the most lines that are generated.
+/// The numbers that a command takes where its words say none, and the ends of their ranges.
 pub fn law_defaults()
     ensures seed { SEED ≡ 0 }
     ensures fuel { FUEL ≡ 100000 }
     ensures most_fuel { MOST_FUEL ≡ 100000000 }
+    ensures slots { SLOTS ≡ 4 }
+    ensures most_slots { MOST_SLOTS ≡ 16 }
+    ensures frames { FRAMES ≡ 8 }
+    ensures least_frames { LEAST_FRAMES ≡ 2 }
+    ensures most_frames { MOST_FRAMES ≡ 16 }
     ensures most_generated { MOST_GENERATED ≡ 19000 }
 {}
 

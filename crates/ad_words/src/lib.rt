@@ -11,6 +11,9 @@ mod task;
 mod tests;
 mod told;
 
-pub use command::{Command, FUEL, MOST_FUEL, MOST_GENERATED, SEED};
+pub use command::{
+    Command, FRAMES, FUEL, LEAST_FRAMES, MOST_FRAMES, MOST_FUEL, MOST_GENERATED, MOST_SLOTS, SEED,
+    SLOTS,
+};
 pub use laws::{law_any_operand, law_both_forms, law_defaults, law_in_range};
 pub use read::read_words;

@@ -6,7 +6,9 @@ ghost use Rattle.std.specs.Str.Parse.{digits_value};
 ghost use Rattle.ad_words.specs.Private.Seen.{range_seen, row_of, task_word};
 ghost use Rattle.ad_words.specs.Words.{Given, generated_numbers, is_of_task, number_of, number_taken};
 
-use crate::command::{FUEL, MOST_FUEL, MOST_GENERATED, SEED};
+use crate::command::{
+    FRAMES, FUEL, LEAST_FRAMES, MOST_FRAMES, MOST_FUEL, MOST_GENERATED, MOST_SLOTS, SEED, SLOTS,
+};
 use crate::task::Task;
 
 /// An option.
@@ -14,6 +16,21 @@ use crate::task::Task;
 pub enum Setting {
     Seed,
     Fuel,
+    Slots,
+    Frames,
+}
+
+/// The number of each option.
+#[derive(Clone, Copy)]
+pub struct Settings {
+    /// The seed of the choice of places.
+    pub seed: u64,
+    /// Steps that a call may make at most.
+    pub fuel: u64,
+    /// The slots that workers enter modules on.
+    pub slots: u64,
+    /// The table frames of each module.
+    pub frames: u64,
 }
 
 /// The numbers that an operand or an option takes.
@@ -40,13 +57,21 @@ pub fn setting_named(task: Task, name: &str) -> Option<Setting>
         Setting::Seed
     } else if name == "fuel" {
         Setting::Fuel
+    } else if name == "slots" {
+        Setting::Slots
+    } else if name == "frames" {
+        Setting::Frames
     } else {
         return None;
     };
     let belongs = match setting {
         Setting::Seed | Setting::Fuel => match task {
-            Task::Seq | Task::Predict | Task::Gen => true,
+            Task::Run | Task::Seq | Task::Predict | Task::Gen => true,
             Task::Show => false,
+        },
+        Setting::Slots | Setting::Frames => match task {
+            Task::Run => true,
+            Task::Seq | Task::Predict | Task::Show | Task::Gen => false,
         },
     };
     if belongs { Some(setting) } else { None }
@@ -93,6 +118,20 @@ fn row_of(setting: Setting) -> Row
                 most: MOST_FUEL,
             },
             default: FUEL,
+        },
+        Setting::Slots => Row {
+            numbers: Range {
+                least: 1,
+                most: MOST_SLOTS,
+            },
+            default: SLOTS,
+        },
+        Setting::Frames => Row {
+            numbers: Range {
+                least: LEAST_FRAMES,
+                most: MOST_FRAMES,
+            },
+            default: FRAMES,
         },
     }
 }

@@ -2,11 +2,12 @@
 
 ghost use Rattle.std.specs.Prelude.{◌≡◌, ℕ, List, Option, None, MatchOption};
 ghost use Rattle.ad_words.specs.Private.Seen.{task_word};
-ghost use Rattle.ad_words.specs.Words.{command_with};
+ghost use Rattle.ad_words.specs.Words.{Settings, command_with};
 
 /// What a command does.
 #[derive(Clone, Copy)]
 pub enum Task {
+    Run,
     Seq,
     Predict,
     Show,
@@ -16,10 +17,12 @@ pub enum Task {
 /// The task of this name.
 pub fn task_named(word: &str) -> Option<Task>
     ensures { MatchOption result
-        ((operand : Option (List ℕ)) (seed fuel : Option ℕ) → command_with word.now operand seed fuel ≡ None)
+        ((operand : Option (List ℕ)) (settings : Option Settings) → command_with word.now operand settings ≡ None)
         (λ task. word.now ≡ task_word task) }
 {
-    if word == "seq" {
+    if word == "run" {
+        Some(Task::Run)
+    } else if word == "seq" {
         Some(Task::Seq)
     } else if word == "predict" {
         Some(Task::Predict)

@@ -13,6 +13,16 @@ fn owned(alloc: Global, words: &[&str]) -> Result<Vec<String>, AllocError> {
     Ok(list)
 }
 
+fn run(script: &str, seed: u64, fuel: u64, slots: u64, frames: u64) -> Command<'_> {
+    Command::Run {
+        script,
+        seed,
+        fuel,
+        slots,
+        frames,
+    }
+}
+
 fn seq(script: &str, seed: u64, fuel: u64) -> Command<'_> {
     Command::Seq { script, seed, fuel }
 }
@@ -31,7 +41,7 @@ fn generate(number: u64, seed: u64, fuel: u64) -> Command<'static> {
 
 #[test]
 fn words_of_the_grammar(rt: HostRuntime) -> Result<(), Fail> {
-    let cases: [(&[&str], Command<'_>); 53] = [
+    let cases: [(&[&str], Command<'_>); 80] = [
         // Tasks and operands.
         (&["seq", "s"], seq("s", 0, 100_000)),
         (&["predict", "s"], predict("s", 0, 100_000)),
@@ -117,6 +127,76 @@ fn words_of_the_grammar(rt: HostRuntime) -> Result<(), Fail> {
         ),
         (&["seq", "gen"], seq("gen", 0, 100_000)),
         (&["show", "8"], show("8")),
+        // The calls of a script's workers beside one another.
+        (&["run", "s"], run("s", 0, 100_000, 4, 8)),
+        (&["run", "run"], run("run", 0, 100_000, 4, 8)),
+        (&["run", ""], run("", 0, 100_000, 4, 8)),
+        (&["run", "-"], run("-", 0, 100_000, 4, 8)),
+        (&["seq", "run"], seq("run", 0, 100_000)),
+        (&["run", "s", "--"], run("s", 0, 100_000, 4, 8)),
+        (&["run", "--", "s"], run("s", 0, 100_000, 4, 8)),
+        (&["run", "--", "--"], run("--", 0, 100_000, 4, 8)),
+        (
+            &["run", "--", "--slots=17"],
+            run("--slots=17", 0, 100_000, 4, 8),
+        ),
+        (
+            &["run", "--slots", "2", "--", "-"],
+            run("-", 0, 100_000, 2, 8),
+        ),
+        (&["run", "--seed", "5", "s"], run("s", 5, 100_000, 4, 8)),
+        (
+            &["run", "s", "--seed=18446744073709551615"],
+            run("s", u64::MAX, 100_000, 4, 8),
+        ),
+        (&["run", "s", "--fuel", "1"], run("s", 0, 1, 4, 8)),
+        (
+            &["run", "--fuel=100000000", "s"],
+            run("s", 0, 100_000_000, 4, 8),
+        ),
+        (&["run", "--slots", "1", "s"], run("s", 0, 100_000, 1, 8)),
+        (&["run", "s", "--slots", "16"], run("s", 0, 100_000, 16, 8)),
+        (&["run", "--slots=16", "s"], run("s", 0, 100_000, 16, 8)),
+        (&["run", "s", "--slots=1"], run("s", 0, 100_000, 1, 8)),
+        (
+            &["run", "--slots", "0016", "s"],
+            run("s", 0, 100_000, 16, 8),
+        ),
+        (&["run", "--frames", "2", "s"], run("s", 0, 100_000, 4, 2)),
+        (&["run", "s", "--frames", "16"], run("s", 0, 100_000, 4, 16)),
+        (&["run", "--frames=16", "s"], run("s", 0, 100_000, 4, 16)),
+        (&["run", "s", "--frames=2"], run("s", 0, 100_000, 4, 2)),
+        (&["run", "--frames=002", "s"], run("s", 0, 100_000, 4, 2)),
+        (
+            &["run", "--slots=8", "s", "--frames", "4"],
+            run("s", 0, 100_000, 8, 4),
+        ),
+        (
+            &[
+                "run",
+                "--seed",
+                "5",
+                "--fuel=7",
+                "s",
+                "--slots",
+                "3",
+                "--frames=12",
+            ],
+            run("s", 5, 7, 3, 12),
+        ),
+        (
+            &[
+                "run",
+                "--frames=12",
+                "--slots",
+                "3",
+                "s",
+                "--fuel=7",
+                "--seed",
+                "5",
+            ],
+            run("s", 5, 7, 3, 12),
+        ),
     ];
     for (words, command) in cases {
         let owned = owned(rt.alloc(), words)?;
@@ -127,13 +207,13 @@ fn words_of_the_grammar(rt: HostRuntime) -> Result<(), Fail> {
 
 #[test]
 fn words_of_no_grammar(rt: HostRuntime) -> Result<(), Fail> {
-    let cases: [&[&str]; 103] = [
+    let cases: [&[&str]; 154] = [
         // The task is missing, unknown or not the first word.
         &[],
         &[""],
         &["s"],
         &["s", "seq"],
-        &["run", "s"],
+        &["walk", "s"],
         &["Seq", "s"],
         &["--", "seq", "s"],
         &["--seed", "5", "seq", "s"],
@@ -239,6 +319,59 @@ fn words_of_no_grammar(rt: HostRuntime) -> Result<(), Fail> {
         &["Gen", "8"],
         &["gen8"],
         &["8", "gen"],
+        // The words of `run`.
+        &["run"],
+        &["run", "--"],
+        &["run", "--slots", "4"],
+        &["run", "--frames=8"],
+        &["run", "s", "t"],
+        &["run", "s", "--", "t"],
+        &["run", "--", "s", "--slots=4"],
+        &["Run", "s"],
+        &["run", "--help"],
+        &["run", "-slots", "4", "s"],
+        &["run", "--Slots", "4", "s"],
+        &["run", "--slot=4", "s"],
+        &["run", "--frame", "8", "s"],
+        &["run", "--seed", "18446744073709551616", "s"],
+        &["run", "--fuel", "0", "s"],
+        &["run", "--fuel=100000001", "s"],
+        &["run", "--slots", "0", "s"],
+        &["run", "s", "--slots", "17"],
+        &["run", "--slots=17", "s"],
+        &["run", "s", "--slots=0"],
+        &["run", "--slots", "18446744073709551617", "s"],
+        &["run", "--frames", "0", "s"],
+        &["run", "--frames", "1", "s"],
+        &["run", "s", "--frames", "17"],
+        &["run", "--frames=17", "s"],
+        &["run", "s", "--frames=1"],
+        &["run", "--frames", "18446744073709551618", "s"],
+        &["run", "--slots=", "s"],
+        &["run", "s", "--frames="],
+        &["run", "--slots", "", "s"],
+        &["run", "--slots", "s"],
+        &["run", "s", "--slots"],
+        &["run", "s", "--frames"],
+        &["run", "--slots", "--frames", "8", "s"],
+        &["run", "--frames", "--", "s"],
+        &["run", "--slots=-4", "s"],
+        &["run", "--slots", "+4", "s"],
+        &["run", "--frames", "0x8", "s"],
+        &["run", "--frames=8a", "s"],
+        &["run", "--slots", "4", "--slots", "4", "s"],
+        &["run", "--slots", "4", "s", "--slots=5"],
+        &["run", "--frames=8", "--frames=8", "s"],
+        &["run", "--frames=8", "s", "--frames", "9"],
+        &["run", "--seed=5", "s", "--seed=5"],
+        &["run", "--fuel", "7", "--fuel", "7", "s"],
+        // `--slots` and `--frames` belong to `run` alone.
+        &["seq", "--frames", "8", "s"],
+        &["seq", "s", "--frames=8"],
+        &["predict", "--slots", "4", "s"],
+        &["predict", "s", "--frames=8"],
+        &["show", "--slots=4", "f"],
+        &["show", "f", "--frames", "8"],
     ];
     for words in cases {
         let owned = owned(rt.alloc(), words)?;

@@ -1,20 +1,28 @@
 //! What was read of the words so far.
 
 ghost use Rattle.std.specs.Prelude.{◌≡◌, ℕ, List, [], map, option_map, MatchOption, None, string_bytes};
-ghost use Rattle.ad_words.specs.Private.Heard.{Hears, command_heard};
-ghost use Rattle.ad_words.specs.Private.Seen.{command_seen, task_word};
-ghost use Rattle.ad_words.specs.Words.{Given, Operand, Said, command_said};
+ghost use Rattle.ad_words.specs.Private.Heard.{Hears, HearsValue, command_heard, values_heard};
+ghost use Rattle.ad_words.specs.Private.Seen.{command_seen, row_of, settings_seen, task_word};
+ghost use Rattle.ad_words.specs.Words.{Given, Operand, Said, command_said, settings_of};
 
 use crate::command::Command;
-use crate::setting::{Setting, generated, number, setting_named};
+use crate::setting::{Setting, Settings, generated, number, setting_named};
 use crate::task::Task;
 
 /// The operand and the values of the options, where they were read.
 #[derive(Clone, Copy)]
 pub struct Told<'a> {
     operand: Option<&'a str>,
+    values: Values<'a>,
+}
+
+/// The value of each option, where it was read.
+#[derive(Clone, Copy)]
+struct Values<'a> {
     seed: Option<&'a str>,
     fuel: Option<&'a str>,
+    slots: Option<&'a str>,
+    frames: Option<&'a str>,
 }
 
 impl<'a> Told<'a> {
@@ -24,8 +32,12 @@ impl<'a> Told<'a> {
     {
         Told {
             operand: None,
-            seed: None,
-            fuel: None,
+            values: Values {
+                seed: None,
+                fuel: None,
+                slots: None,
+                frames: None,
+            },
         }
     }
 
@@ -59,17 +71,9 @@ impl<'a> Told<'a> {
     pub fn with_option(self, task: Task, name: &str, value: &'a str) -> Option<Told<'a>>
         ensures { Hears (task_word task) self.entry (Given name.now value.now) result }
     {
-        match setting_named(task, name)? {
-            Setting::Seed if self.seed.is_none() => Some(Told {
-                seed: Some(value),
-                ..self
-            }),
-            Setting::Fuel if self.fuel.is_none() => Some(Told {
-                fuel: Some(value),
-                ..self
-            }),
-            Setting::Seed | Setting::Fuel => None,
-        }
+        let setting = setting_named(task, name)?;
+        let values = self.values.with(setting, value)?;
+        Some(Told { values, ..self })
     }
 
     /// The command of the task, with what was read.
@@ -77,9 +81,20 @@ impl<'a> Told<'a> {
         ensures { option_map command_seen result ≡ command_heard (task_word task) self.entry [] }
     {
         let operand = self.operand?;
-        let seed = number(Setting::Seed, self.seed)?;
-        let fuel = number(Setting::Fuel, self.fuel)?;
+        let Settings {
+            seed,
+            fuel,
+            slots,
+            frames,
+        } = self.values.settings()?;
         Some(match task {
+            Task::Run => Command::Run {
+                script: operand,
+                seed,
+                fuel,
+                slots,
+                frames,
+            },
             Task::Seq => Command::Seq {
                 script: operand,
                 seed,
@@ -96,6 +111,45 @@ impl<'a> Told<'a> {
                 seed,
                 fuel,
             },
+        })
+    }
+}
+
+impl<'a> Values<'a> {
+    /// The option's value was read, unless it had one.
+    fn with(self, setting: Setting, value: &'a str) -> Option<Values<'a>>
+        ensures { HearsValue self.entry (Given (row_of setting).name value.now) result }
+    {
+        match setting {
+            Setting::Seed if self.seed.is_none() => Some(Values {
+                seed: Some(value),
+                ..self
+            }),
+            Setting::Fuel if self.fuel.is_none() => Some(Values {
+                fuel: Some(value),
+                ..self
+            }),
+            Setting::Slots if self.slots.is_none() => Some(Values {
+                slots: Some(value),
+                ..self
+            }),
+            Setting::Frames if self.frames.is_none() => Some(Values {
+                frames: Some(value),
+                ..self
+            }),
+            Setting::Seed | Setting::Fuel | Setting::Slots | Setting::Frames => None,
+        }
+    }
+
+    /// The number of each option.
+    fn settings(self) -> Option<Settings>
+        ensures { option_map settings_seen result ≡ settings_of (values_heard self.entry []) }
+    {
+        Some(Settings {
+            seed: number(Setting::Seed, self.seed)?,
+            fuel: number(Setting::Fuel, self.fuel)?,
+            slots: number(Setting::Slots, self.slots)?,
+            frames: number(Setting::Frames, self.frames)?,
         })
     }
 }

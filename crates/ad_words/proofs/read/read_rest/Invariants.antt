@@ -7,9 +7,9 @@ use Rattle.ad_words.proofs.read.read_rest.Given as goal
 -- the words say what was read of them and the words that are left say
 abbrev pub invariant-loop-told : goal.invariant-loop-told
 invariant-loop-told l =
-    let (operand, (seed, (fuel, _))) = l.told in
+    let (operand, (values, _)) = l.told in
     option_and_then (command_said (task_word l.task)) (said_by (map string_bytes l.words))
-    ≡ command_left (task_word l.task) (record { operand = operand; seed = seed; fuel = fuel }) (map string_bytes l.rest)
+    ≡ command_left (task_word l.task) (record { operand = operand; values = values }) (map string_bytes l.rest)
 
 abbrev pub decreases-loop-told : goal.decreases-loop-told
 decreases-loop-told l = length l.rest
