@@ -38,7 +38,7 @@ abbrev opening_of : ℕ → ℕ → List Image → List Mapping
 opening_of seed workers images = opening_mappings workers images (opening_drawn seed workers images).places
 
 -- an address of a place is in its region
-region-of : (p : Place) (at : ℕ) → IsPlace p → IsInside p at → p.region ≡ at / REGION_BYTES
+pub region-of : (p : Place) (at : ℕ) → IsPlace p → IsInside p at → p.region ≡ at / REGION_BYTES
 region-of p at is inside = omega (arith, is.page_before, is.page_behind, is.some_page, inside.from, inside.to)
 
 -- two places that were drawn differ in their regions
@@ -99,7 +99,7 @@ fault-there at memory none high =
     (λ odd. refl)
 
 -- so it is after steps, which leave each segment where it is
-fault-at-steps : (at : ℕ) (segments : List (Segment ℕ)) → holding segments at ≡ None → 2 * REGION_BYTES < at → IsFaultAtEachStep at segments
+pub fault-at-steps : (at : ℕ) (segments : List (Segment ℕ)) → holding segments at ≡ None → 2 * REGION_BYTES < at → IsFaultAtEachStep at segments
 fault-at-steps at segments none high steps first later before after same leads =
     let stay = led steps first later before after leads ∙ ap extents same in
     let nothing = holding-none at after.memory.segments segments stay none in

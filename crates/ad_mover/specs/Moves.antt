@@ -1,5 +1,5 @@
 -- What the lines of a script make of the mover: its list of moves, the lists of its seats in the two tables, and its draws.
-use Rattle.std.specs.Prelude.{◌≡◌, ℕ, ◌+◌, ◌*◌, ◌<◌, ◌≤◌, nat_lt, if◌then◌else◌, List, [], ◌∷◌, ◌++◌, length, map, slice_index, slice_set}
+use Rattle.std.specs.Prelude.{◌≡◌, ◌≢◌, ℕ, ◌+◌, ◌*◌, ◌<◌, ◌≤◌, nat_lt, if◌then◌else◌, List, [], ◌∷◌, ◌++◌, length, map, slice_index, slice_set, All}
 use Rattle.ad_base.specs.declared.layout.TheConstants.{MAPPINGS, STACK_PAGES}
 use Rattle.ad_base.specs.declared.ledger.Kind.TheVariants as kinds
 use Rattle.ad_base.specs.declared.ledger.MoveEnd.{MoveEnd}
@@ -58,14 +58,16 @@ retired_by line m current (Placed owners p) = deed.Retire (slice_index current m
 
 -- Moving module m may come to this, where these places were drawn and these mappings were made before. It is spent exactly where
 -- no number is left. It is busy only where each frame of the module was owned as it was looked at. Else the new mapping lies at the
--- next place that is drawn, in the first frame without owner.
+-- next place that is drawn, in the first frame without owner. No owner is 0, so that the looks end at that frame.
 abbrev pub MayCome : Shape → ℕ → Drawn → List Made → Outcome → Type 0
 MayCome shape m d mappings NoNumber = MAPPINGS ≤ length d.places
 MayCome shape m d mappings (AllOwned owners last) =
     (length d.places < MAPPINGS) × (length owners + 1 ≡ shape.frames) × AreLastIn mappings (m * shape.frames) (owners ++ last ∷ [])
+    × All (λ o. o ≢ 0) (owners ++ last ∷ [])
 MayCome shape m d mappings (Placed owners p) =
     (length d.places < MAPPINGS) × (length owners < shape.frames) × AreLastIn mappings (m * shape.frames) owners
     × (p ≡ record (next_place d kinds.Code (opening_of shape m).place.pages) { frame = m * shape.frames + length owners })
+    × All (λ o. o ≢ 0) owners
 
 -- what is seen of a mover: what was drawn, what it did in the mapping table, its current mapping of each module, the stacks that it
 -- gave to lanes, and what came of its moves so far
@@ -99,7 +101,7 @@ MovesModules shape line (m ∷ ms) before retires after =
     (mid : Moving) × (first rest : List Deed) × MovesModule shape line m before first mid × MovesModules shape line ms mid rest after × (retires ≡ first ++ rest)
 
 -- A move line: its modules are moved, and then what went out is retired, all before the next line. The mover unmaps those mappings
--- that nobody is inside.
+-- that nobody is inside: which, the rows of the closed table say.
 pub record MovesLine (shape : Shape) (line : ℕ) (modules : List ℕ) (before after : Moving) : Type 0 where
   pub switched : Moving
   pub retires : List Deed

@@ -47,7 +47,8 @@ moves_of (steps.Call line worker «module» export args) = 0
 moves_of (steps.Move line modules) = length modules
 moves_of (steps.Stack line worker) = 1
 
--- what a step moves is there, among so many modules and workers, and its line is one of a script
+-- A step may be made, with so many modules and workers: a call always; a move of modules where each is there and its line is
+-- from 1 to LINES; the change of a worker's stack where that worker is there and its line isn't 0.
 abbrev pub MayBeMade : ℕ → ℕ → Step → Type 0
 MayBeMade modules workers (steps.Call line worker «module» export args) = Unit {0}
 MayBeMade modules workers (steps.Move line members) = All (λ (m : ℕ). m < modules) members × (1 ≤ line) × (line ≤ LINES)

@@ -21,7 +21,7 @@ use Rattle.ad_maps.specs.MapPlace.{opening_of}
 use Rattle.ad_relate.specs.ClearHistory.{AreOffsets, ArePlacedApart, RepliesAsReplayed, entry_places}
 use Rattle.ad_relate.specs.Stands.{IsApart}
 use Rattle.ad_relate.proofs.ClearHistory.{replies}
-use Rattle.ad_run.specs.Beside.{HasRow}
+use Rattle.ad_run.specs.Beside.{IsRowOf}
 use Rattle.ad_run.proofs.Books.{lawful-book, zip-reads}
 use Rattle.ad_run.proofs.OnRows.{HaveCodeRows, IsCalledOn, called-on}
 use Rattle.ad_run.proofs.Ran.{HasRun, as-many}
@@ -45,27 +45,27 @@ apart-on s after m image e whole pages on from = record {
   stack_fixed = λ same. absurd (omega (arith, whole.fixed_place.for_modules, on.is_stack.for_stacks, same));
 }
 
--- places of rows of different kinds lie apart, where no two rows are of one region
-pub apart-in-rows : (rows : List Row) → AllPairs (λ (r q : Row). r.place.region ≢ q.place.region) rows → (r q : Row) → Contains rows r → Contains rows q → (r.kind ≡ q.kind → ⊥) → r.place.region ≢ q.place.region
-apart-in-rows rows apart r q c d differ same =
+-- no two rows are of one region
+abbrev pub HaveOwnRegions : List Row → Type 0
+HaveOwnRegions rows = AllPairs (λ (r q : Row). r.place.region ≢ q.place.region) rows
+
+-- then rows of one region are one row
+pub one-row : (rows : List Row) → HaveOwnRegions rows → (r q : Row) → Contains rows r → Contains rows q → r.place.region ≡ q.place.region → r ≡ q
+one-row rows apart r q c d same =
     let at : (k : ℕ) (x y : Row) → k < length rows → get_or rows k x ≡ x → get_or rows k y ≡ x = λ k x y low e. get_or_default rows k y x low ∙ e in
     elim (cases_lt c.0 d.0) [
-      | inl less ↦ apart c.0 d.0 r less d.1 (ap (λ (x : Row). x.place.region) c.2 ∙ same ∙ sym (ap (λ (x : Row). x.place.region) (at d.0 q r d.1 d.2)))
+      | inl less ↦ absurd (apart c.0 d.0 r less d.1 (ap (λ (x : Row). x.place.region) c.2 ∙ same ∙ sym (ap (λ (x : Row). x.place.region) (at d.0 q r d.1 d.2))))
       | inr most ↦ elim (cases_lt d.0 c.0) [
-        | inl less ↦ apart d.0 c.0 r less c.1 (ap (λ (x : Row). x.place.region) (at d.0 q r d.1 d.2) ∙ sym same ∙ sym (ap (λ (x : Row). x.place.region) c.2))
+        | inl less ↦ absurd (apart d.0 c.0 r less c.1 (ap (λ (x : Row). x.place.region) (at d.0 q r d.1 d.2) ∙ sym same ∙ sym (ap (λ (x : Row). x.place.region) c.2)))
         | inr least ↦
             let one : c.0 ≡ d.0 = omega arith in
-            differ (ap (λ (x : Row). x.kind) (sym c.2 ∙ ap (λ k. get_or rows k r) one ∙ at d.0 q r d.1 d.2))
+            sym c.2 ∙ ap (λ k. get_or rows k r) one ∙ at d.0 q r d.1 d.2
       ]
     ]
 
 -- each immovable part has a row
 abbrev pub HaveFixedRows : List Image → List Row → Type 0
-HaveFixedRows images rows = (m : ℕ) (image : Image) → slice_get images m ≡ Some image → (q : Row) × HasRow rows Fixed m q × (q.place ≡ image.fixed)
-
--- no two rows are of one region
-abbrev pub HaveOwnRegions : List Row → Type 0
-HaveOwnRegions rows = AllPairs (λ (r q : Row). r.place.region ≢ q.place.region) rows
+HaveFixedRows images rows = (m : ℕ) (image : Image) → slice_get images m ≡ Some image → (q : Row) × IsRowOf rows Fixed m q × (q.place ≡ image.fixed)
 
 module _ (slots frames : ℕ) (l : Lines) (s : Shared) (before after : List Hands) (books : List Book) (ran : HasRun slots frames l s before after books) where
   whole-image : (m : ℕ) (image : Image) → slice_get l.images m ≡ Some image → IsWhole image
@@ -103,9 +103,9 @@ module _ (slots frames : ℕ) (l : Lines) (s : Shared) (before after : List Hand
       let on = called-on slots frames l s before after books ran m contents f x c in
       let r = code x.worker on.hands on.stored m x.under on.read in
       let q = fixed m image e in
-      apart-in-rows rows apart r.0 q.0 r.1.listed q.1.listed
-      (λ alike. let no : Code ≡ Fixed = sym r.1.is_kind ∙ alike ∙ q.1.is_kind in absurd cc)
-      (ap (λ (p : Place). p.region) r.2 ∙ same ∙ sym (ap (λ (p : Place). p.region) q.2))
+      let one = one-row rows apart r.0 q.0 r.1.listed q.1.listed (ap (λ (p : Place). p.region) r.2 ∙ same ∙ sym (ap (λ (p : Place). p.region) q.2)) in
+      let no : Code ≡ Fixed = sym r.1.is_kind ∙ ap (λ (x : Row). x.kind) one ∙ q.1.is_kind in
+      absurd cc
 
   -- and the clear calls of each book reply as the symbolic machine does
   pub clear-on-rows : (rows : List Row) → HaveOwnRegions rows

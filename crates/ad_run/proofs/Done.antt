@@ -98,7 +98,7 @@ reads-append m (act.Unmap n ∷ xs) ys = reads-append m xs ys
 reads-asked : (m : ℕ) (list : List Asked) (rest : List Act) → reads_of m (map act_of list ++ rest) ≡ reads_of m rest
 reads-asked m [] rest = refl
 reads-asked m (asked.Page at ∷ list) rest = reads-asked m list rest
-reads-asked m (asked.Word entry ∷ list) rest = reads-asked m list rest
+reads-asked m (asked.Cell entry ∷ list) rest = reads-asked m list rest
 
 reads-unmaps : (m : ℕ) (ns : List ℕ) → reads_of m (map (λ (n : ℕ). act.Unmap n) ns) ≡ []
 reads-unmaps m [] = refl

@@ -1,6 +1,6 @@
 -- What a run comes to once its threads have ended, from what it was opened with.
 use Rattle.std.proofs.Common.{◌≡◌, ℕ, suc, ◌+◌, ◌<◌, ◌≤◌, List, [], ◌∷◌, length, map, get_or, Option, None, Some, slice_get, length-append, refl, sym, ap, ◌∙◌, subst, arith}
-use Rattle.std.specs.List.{All, flat_map, range_with_len, sum_by}
+use Rattle.std.specs.List.{All, AllPairs, flat_map, range_with_len, sum_by}
 use Rattle.std.specs.Option.{IsSomeAnd}
 use Rattle.std.specs.Prelude.{Result, Ok, Err, IfOk}
 use Rattle.std.proofs.lemmas.List.{length-map}
@@ -11,12 +11,14 @@ use Rattle.std.proofs.lemmas.Option.{slice_get_within}
 use Rattle.ad_base.specs.declared.image.Image.{Image}
 use Rattle.ad_lines.specs.declared.ready.ReadyStep.{ReadyStep}
 use Rattle.ad_lines.specs.declared.ready.ReadyStep.TheVariants as ready
-use Rattle.ad_lines.specs.LineLaws.{move_requests}
+use Rattle.ad_lines.specs.LineLaws as laws
+use Rattle.ad_lines.specs.LineLaws.{AreSteps, move_requests}
 use Rattle.ad_lines.specs.Opening.{AreLoaded}
 use Rattle.ad_lines.specs.Room as room
 use Rattle.ad_lines.specs.Sound.{Lines}
+use Rattle.ad_lines.proofs.Elements.{all-read, all-reads, pairs-head, pairs-tail}
 use Rattle.ad_lines.proofs.Kept.{read}
-use Rattle.ad_lines.proofs.ListReads.{read-map}
+use Rattle.ad_lines.proofs.ListReads.{map-read, read-map}
 use Rattle.ad_lines.proofs.Opens.{stacks-count, there}
 use Rattle.ad_maps.specs.declared.shape.Shape.{Shape}
 use Rattle.ad_maps.specs.declared.words.TheConstants.{LINES}
@@ -31,6 +33,7 @@ use Rattle.ad_run.proofs.OpeningJobs.{read-counted}
 use Rattle.ad_run.proofs.ScriptSteps.{AreMovable, AreReadyAs, IsMovable, step_requests}
 use Rattle.ad_script.specs.declared.script.Step.{Step}
 use Rattle.ad_script.specs.declared.script.Step.TheVariants as steps
+use Rattle.ad_script.specs.declared.script.TheConstants.{SCRIPT_LINES}
 use Rattle.ad_script.specs.Script.{line_of}
 use Rattle.ad_wrapper.specs.Fits.{AreHandsOf}
 use Rattle.ad_wrapper.specs.declared.hands.Hands.{Hands}
@@ -120,6 +123,27 @@ may-all modules workers [] can few = All-nil (MayBeMade modules workers)
 may-all modules workers (step ∷ script) can few =
     All-cons (MayBeMade modules workers) step script (may-one modules workers step can.0 (All-head (λ (x : Step). line_of x ≤ LINES) step script few))
     (may-all modules workers script can.1 (All-tail (λ (x : Step). line_of x ≤ LINES) step script few))
+
+-- ---- how many steps there are
+
+-- there are no more numbers that rise behind one than there are up to their bound
+few-rising : {A : Type 0} (f : A → ℕ) (bound n : ℕ) (xs : List A) → n ≤ bound → All (λ x. n < f x) xs → All (λ x. f x ≤ bound) xs → AllPairs (λ x y. f x < f y) xs → n + length xs ≤ bound
+few-rising f bound n [] low above most rise = omega (arith, low)
+few-rising f bound n (x ∷ xs) low above most rise =
+    let first = All-head (λ y. n < f y) x xs above in
+    let behind = All-tail (λ y. f y ≤ bound) x xs most in
+    let rest = few-rising f bound (f x) xs (All-head (λ y. f y ≤ bound) x xs most) (pairs-head (λ a b. f a < f b) x xs rise) behind (pairs-tail (λ a b. f a < f b) x xs rise) in
+    omega (arith, first, rest)
+
+-- steps in lines of a script are no more than its lines may be
+pub few-steps : (images : List Image) (workers : ℕ) (script : List Step) (list : List ReadyStep) → AreReadyAs images workers script list → AreSteps images workers list → All (λ (step : Step). line_of step ≤ LINES) script
+    → length list ≤ SCRIPT_LINES
+few-steps images workers script list are steps few =
+    let most : All (λ (r : ReadyStep). laws.line_of r ≤ LINES) list = all-reads (λ (r : ReadyStep). laws.line_of r ≤ LINES) list (λ k r e.
+    let s = map-read line_of script k (laws.line_of r) (ap (λ xs. slice_get xs k) are.lines ∙ read-map laws.line_of list k r e) in
+    subst (λ n. n ≤ LINES) s.2 (all-read (λ (x : Step). line_of x ≤ LINES) script k s.0 few s.1)) in
+    let count = few-rising laws.line_of LINES 0 list (omega arith) steps.from_one most steps.rising in
+    omega (arith, count)
 
 -- ---- the whole
 

@@ -23,9 +23,10 @@ pub mod OpeningTurns
 pub mod Ordered
 pub mod Ran
 pub mod RowLists
-pub mod RowsApart
+pub mod RowPlaces
 pub mod ScriptSteps
 pub mod SoundRows
+pub mod Stale
 pub mod Told
 pub mod Turns
 pub mod Whole

@@ -23,7 +23,7 @@ use Rattle.ad_maps.specs.Rows.{AreRowsOf, HaveReadRows}
 use Rattle.ad_maps.specs.Seen as maps
 use Rattle.ad_maps.specs.MapPlace.{IsPlaceOf}
 use Rattle.ad_maps.proofs.Elements.{filter-from, filter-to, none-in}
-use Rattle.ad_run.specs.Beside.{AreOnRows, HasRow}
+use Rattle.ad_run.specs.Beside.{AreOnRows, IsRowOf}
 use Rattle.ad_run.proofs.Books.{entries-done, no-entries}
 use Rattle.ad_run.proofs.Done.{Done, IsDone, acts_done, call_done, done_at, entry_done, is_done_at, read-call, reads-done, stack_done}
 use Rattle.ad_run.proofs.Kept.{contains-flat, contains-map, contains-mapped, pairs-map, pairs-mapped}
@@ -49,11 +49,11 @@ read-done s w d = read-call d.step.«module» d.under (asked_in_call d.image s.f
 
 -- each place that a worker read is that of a row of the module that it read
 abbrev pub HaveCodeRows : List Hands → List Row → Type 0
-HaveCodeRows hands rows = (w : ℕ) (h : Hands) → slice_get hands w ≡ Some h → (m : ℕ) (p : Place) → Contains h.seat.acts (act.Read m p) → (r : Row) × HasRow rows Code m r × (r.place ≡ p)
+HaveCodeRows hands rows = (w : ℕ) (h : Hands) → slice_get hands w ≡ Some h → (m : ℕ) (p : Place) → Contains h.seat.acts (act.Read m p) → (r : Row) × IsRowOf rows Code m r × (r.place ≡ p)
 
 -- each stack that a worker took is that of a row of the worker
 abbrev pub HaveStackRows : List Hands → List Row → Type 0
-HaveStackRows hands rows = (w : ℕ) (h : Hands) → slice_get hands w ≡ Some h → (p : Place) → Contains h.stack_seat.taken p → (r : Row) × HasRow rows Stack w r × (r.place ≡ p)
+HaveStackRows hands rows = (w : ℕ) (h : Hands) → slice_get hands w ≡ Some h → (p : Place) → Contains h.stack_seat.taken p → (r : Row) × IsRowOf rows Stack w r × (r.place ≡ p)
 
 -- the rows of a closed mapping table are of the places that its seats read
 pub code-rows : (hands : List Hands) (gs : List Made) (deeds : List Deed) (rows all : List Row) → AreRowsOf gs deeds rows → HaveReadRows rows (map (λ (h : Hands). h.seat) hands)
@@ -160,9 +160,9 @@ module _ (slots frames : ℕ) (l : Lines) (s : Shared) (before after : List Hand
   on-rows moves rows code stacks =
       let contents = map contents_of books in
       record {
-        under = λ m. if-read contents m (λ (b : Contents). (e : Entry) → Contains b.entries e → (r : Row) × HasRow rows Code m r × (r.place ≡ e.under))
+        under = λ m. if-read contents m (λ (b : Contents). (e : Entry) → Contains b.entries e → (r : Row) × IsRowOf rows Code m r × (r.place ≡ e.under))
             (λ b stored e c. let on = called-on m b stored e c in code e.worker on.hands on.stored m e.under on.read);
-        stacks = λ m. if-read contents m (λ (b : Contents). (e : Entry) → Contains b.entries e → (r : Row) × HasRow rows Stack e.worker r × (r.place ≡ e.stack))
+        stacks = λ m. if-read contents m (λ (b : Contents). (e : Entry) → Contains b.entries e → (r : Row) × IsRowOf rows Stack e.worker r × (r.place ≡ e.stack))
             (λ b stored e c. let on = called-on m b stored e c in stacks e.worker on.hands on.stored e.stack on.took);
         rise = λ m w. if-read contents m (λ (b : Contents). AllPairs (λ (d e : Entry). d.under.mapping ≤ e.under.mapping) (entries_by w b.entries)) (mappings-rise m w);
         stacks_rise = λ m w. if-read contents m (λ (b : Contents). AllPairs (λ (d e : Entry). d.stack.mapping ≤ e.stack.mapping) (entries_by w b.entries)) (stacks-rise m w);

@@ -1,10 +1,11 @@
 -- What the turn table is opened with: books before the first call, with room for the draws of all workers.
-use Rattle.std.proofs.Common.{◌≡◌, ℕ, ◌<◌, ◌≤◌, List, [], length, map, slice_get, Some, sym, ap, ◌∙◌, arith}
+use Rattle.std.proofs.Common.{◌≡◌, ℕ, ◌<◌, ◌≤◌, List, [], Vec, Global, length, map, slice_get, Some, sym, ap, ◌∙◌, arith}
 use Rattle.std.specs.List.{All, range_with_len, sum_by}
 use Rattle.std.specs.Option.{IfSome}
 use Rattle.std.proofs.lemmas.List.{length-map}
 use Rattle.std.proofs.lemmas.List.FromFn.{length-map-range_with_len}
 use Rattle.std.proofs.lemmas.Option.{slice_get_within}
+use Rattle.std.proofs.lemmas.Simd.{map-map}
 use Rattle.ad_base.specs.declared.book.Book.{Book}
 use Rattle.ad_base.specs.Book.{Contents, contents_of}
 use Rattle.ad_core.specs.Turn.{opening_contents}
@@ -12,16 +13,29 @@ use Rattle.ad_lines.specs.Room.{calls_of}
 use Rattle.ad_lines.specs.Sound.{Lines}
 use Rattle.ad_lines.proofs.Elements.{all-reads}
 use Rattle.ad_lines.proofs.ListReads.{map-read, read-map}
+use Rattle.ad_run.specs.Calls.{calls_at, calls_of_worker}
 use Rattle.ad_run.specs.Opened.{draws_for}
 use Rattle.ad_run.proofs.OpeningDraws.{draws-fit}
 use Rattle.ad_run.proofs.OpeningFits.{if-read}
 use Rattle.ad_run.proofs.OpeningJobs.{read-counted}
 use Rattle.ad_turns.specs.Turns.{draws_of}
+use Rattle.ad_wrapper.specs.declared.hands.Ready.{Ready}
 
 -- the books hold what those of the images hold before the first call, and have room for all calls of their modules
 pub record AreNewBooks (l : Lines) (books : List Book) : Type 0 where
   pub contents : map contents_of books ≡ map opening_contents l.images
   pub rooms : map (λ (b : Book). b.history.room) books ≡ map (λ m. sum_by (calls_of m) l.steps) (range_with_len 0 (length l.images))
+
+-- the draws of workers who make these calls
+pub drawn-of : (l : Lines) (calls : List (Vec Ready Global)) → l.workers ≡ length calls → map (λ (list : Vec Ready Global). list.items) calls ≡ map (λ w. calls_of_worker w l.steps) (range_with_len 0 (length calls))
+    → (draws : List (List ℕ)) → draws ≡ map (λ (list : Vec Ready Global). map (λ m. calls_at m list.items) (range_with_len 0 (length l.images))) calls → draws ≡ map (draws_for l) (range_with_len 0 l.workers)
+drawn-of l calls many are draws drawn =
+    let counted : List Ready → List ℕ = λ list. map (λ m. calls_at m list) (range_with_len 0 (length l.images)) in
+    drawn
+    ∙ sym (map-map counted (λ (list : Vec Ready Global). list.items) calls)
+    ∙ ap (map counted) are
+    ∙ map-map counted (λ w. calls_of_worker w l.steps) (range_with_len 0 (length calls))
+    ∙ ap (λ n. map (draws_for l) (range_with_len 0 n)) (sym many)
 
 module _ (l : Lines) (books : List Book) (new : AreNewBooks l books) (draws : List (List ℕ)) (drawn : draws ≡ map (draws_for l) (range_with_len 0 l.workers)) where
   pub as-many-books : length books ≡ length l.images

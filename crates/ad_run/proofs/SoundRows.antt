@@ -15,7 +15,7 @@ use Rattle.ad_lines.specs.Sound.{Lines, chosen_places, unframed}
 use Rattle.ad_lines.proofs.Elements.{contains-read, pairs-read}
 use Rattle.ad_lines.proofs.ListReads.{map-read, read-enumerate, read-map}
 use Rattle.ad_mover.specs.Moves.{Moving}
-use Rattle.ad_run.specs.Beside.{HasRow}
+use Rattle.ad_run.specs.Beside.{IsRowOf}
 use Rattle.ad_run.specs.Opened.{opening_in_frames}
 use Rattle.ad_run.specs.Rows.{fixed_row, fixed_rows}
 use Rattle.ad_run.proofs.AllRows.{AreClosedRows, IsMoverRun, moves-asked, regions-differ, rows-ledger, rows-once, rows-places}
@@ -30,6 +30,22 @@ pub record HasSoundRows (frames : ℕ) (l : Lines) (moves : List Moved) (rows : 
   pub ledger : IsLedger (opening_in_frames frames l ++ made_mappings moves) rows
   pub unmapped : All IsUnmappedOnce rows
 
+-- no two rows of a ledger are of one region where no two mappings are
+pub ledger-regions : (ms : List Mapping) (rows : List Row) → IsLedger ms rows → AllPairs (λ (m n : Mapping). m.place.region ≢ n.place.region) ms → AllPairs (λ (r q : Row). r.place.region ≢ q.place.region) rows
+ledger-regions ms rows ledger differ i j d less within e =
+    let places = ledger-places ms rows ledger in
+    let at : (k : ℕ) (r : Row) → slice_get rows k ≡ Some r → (m : Mapping) × (slice_get ms k ≡ Some m) × (m.place ≡ r.place) = λ k r f.
+    map-read (λ (m : Mapping). m.place) ms k r.place (ap (λ ps. slice_get ps k) (sym places) ∙ read-map (λ (x : Row). x.place) rows k r f) in
+    let m = at i (get_or rows i d) (slice_get-get_or rows i d (omega (arith, less, within))) in
+    let n = at j (get_or rows j d) (slice_get-get_or rows j d within) in
+    pairs-read (λ (x y : Mapping). x.place.region ≢ y.place.region) ms i j m.0 n.0 differ less m.1 n.1 (ap (λ (p : Place). p.region) m.2 ∙ e ∙ sym (ap (λ (p : Place). p.region) n.2))
+
+-- the row of an immovable part is among those of all of them
+pub fixed-listed : (images : List Image) (m : ℕ) (image : Image) → slice_get images m ≡ Some image → Contains (fixed_rows images) (fixed_row (m, image))
+fixed-listed images m image loaded =
+    let numbered : slice_get (enumerate_from 0 images) m ≡ Some (m, image) = let at : 0 + m ≡ m = omega arith in read-enumerate 0 images m image loaded ∙ ap (λ n. Some (n, image)) at in
+    contains-read (fixed_rows images) m (fixed_row (m, image)) (read-map fixed_row (enumerate_from 0 images) m (m, image) numbered)
+
 module _ (slots frames : ℕ) (l : Lines) (script : List Step) (last : Moving) (run : IsMoverRun slots frames l script last)
     (code stacks all : List Row) (closed : AreClosedRows slots frames l last code stacks all) where
   pub sound-rows : HasSoundRows frames l last.moves all
@@ -42,15 +58,7 @@ module _ (slots frames : ℕ) (l : Lines) (script : List Step) (last : Moving) (
 
   -- no two rows are of one region
   pub rows-regions : AllPairs (λ (r q : Row). r.place.region ≢ q.place.region) all
-  rows-regions i j d less within e =
-      let ms = mappings_of frames l last.moves in
-      let places = ledger-places ms all (rows-ledger slots frames l script last run code stacks all closed) in
-      let at : (k : ℕ) (r : Row) → slice_get all k ≡ Some r → (m : Mapping) × (slice_get ms k ≡ Some m) × (m.place ≡ r.place) = λ k r f.
-      map-read (λ (m : Mapping). m.place) ms k r.place (ap (λ ps. slice_get ps k) (sym places) ∙ read-map (λ (x : Row). x.place) all k r f) in
-      let m = at i (get_or all i d) (slice_get-get_or all i d (omega (arith, less, within))) in
-      let n = at j (get_or all j d) (slice_get-get_or all j d within) in
-      pairs-read (λ (x y : Mapping). x.place.region ≢ y.place.region) ms i j m.0 n.0 (regions-differ slots frames l script last run) less m.1 n.1
-      (ap (λ (p : Place). p.region) m.2 ∙ e ∙ sym (ap (λ (p : Place). p.region) n.2))
+  rows-regions = ledger-regions (mappings_of frames l last.moves) all (rows-ledger slots frames l script last run code stacks all closed) (regions-differ slots frames l script last run)
 
   -- the rows of the closed tables are among them
   pub code-within : (r : Row) → Contains code r → Contains all r
@@ -64,10 +72,8 @@ module _ (slots frames : ℕ) (l : Lines) (script : List Step) (last : Moving) (
       (Contains-append_left (code ++ stacks) (fixed_rows l.images) r (Contains-append_right code stacks r c))
 
   -- and each immovable part has one
-  pub fixed-within : (m : ℕ) (image : Image) → slice_get l.images m ≡ Some image → (q : Row) × HasRow all Fixed m q × (q.place ≡ image.fixed)
+  pub fixed-within : (m : ℕ) (image : Image) → slice_get l.images m ≡ Some image → (q : Row) × IsRowOf all Fixed m q × (q.place ≡ image.fixed)
   fixed-within m image loaded =
-      let numbered : slice_get (enumerate_from 0 l.images) m ≡ Some (m, image) = let at : 0 + m ≡ m = omega arith in read-enumerate 0 l.images m image loaded ∙ ap (λ n. Some (n, image)) at in
       let q = fixed_row (m, image) in
-      let there = contains-read (fixed_rows l.images) m q (read-map fixed_row (enumerate_from 0 l.images) m (m, image) numbered) in
-      let listed = Contains-permutation (code ++ stacks ++ fixed_rows l.images) all q closed.merged.same (Contains-append_right (code ++ stacks) (fixed_rows l.images) q there) in
+      let listed = Contains-permutation (code ++ stacks ++ fixed_rows l.images) all q closed.merged.same (Contains-append_right (code ++ stacks) (fixed_rows l.images) q (fixed-listed l.images m image loaded)) in
       (q, record { listed = listed; is_kind = refl; is_who = refl }, refl)

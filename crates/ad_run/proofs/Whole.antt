@@ -9,7 +9,7 @@ use Rattle.ad_base.specs.Book.{contents_of}
 use Rattle.ad_base.specs.Ledger.{is_same_kind}
 use Rattle.ad_lines.specs.Sound.{IsSoundRun, Lines}
 use Rattle.ad_maps.specs.Ledger.{all_made}
-use Rattle.ad_maps.specs.Rows.{ClosedSeen, HaveReadRows}
+use Rattle.ad_maps.specs.Rows.{ClosedSeen, HaveReadRows, HaveUnmappedRows, HaveUnmapsTold}
 use Rattle.ad_maps.proofs.Elements.{filter-from}
 use Rattle.ad_mover.specs.Moves.{Moving}
 use Rattle.ad_run.specs.Beside.{IsRunBeside}
@@ -28,16 +28,19 @@ use Rattle.ad_stacks.specs.Ledger.{HaveRows}
 use Rattle.ad_wrapper.specs.declared.hands.Hands.{Hands}
 use Rattle.ad_wrapper.specs.declared.shared.Shared.{Shared}
 
--- what the closed tables say of the seats
-pub record AreClosedSeats (after : List Hands) (last : Moving) (code stacks : List Row) (seen : ClosedSeen) : Type 0 where
+-- what the closed tables say of their shape and of the seats
+pub record AreClosedSeats (slots frames : ℕ) (l : Lines) (after : List Hands) (last : Moving) (code stacks : List Row) (seen : ClosedSeen) : Type 0 where
+  pub shape_is : seen.shape ≡ shape_for slots frames l
   pub rows_are : seen.rows ≡ code
   pub deeds_are : seen.mover.deeds ≡ last.deeds
   pub seats_are : seen.seats ≡ map (λ (h : Hands). h.seat) after
   pub reads : HaveReadRows code (map (λ (h : Hands). h.seat) after)
   pub took : HaveRows stacks (map (λ (h : Hands). h.stack_seat) after)
+  pub unmaps : HaveUnmapsTold seen.rows seen.mover.deeds seen.seats
+  pub unmapped : HaveUnmappedRows seen.rows seen.mover.deeds seen.seats
 
 module _ (slots frames : ℕ) (l : Lines) (script : List Step) (s : Shared) (before after : List Hands) (books : List Book) (ran : HasRun slots frames l s before after books) (last : Moving) (run : IsMoverRun slots frames l script last)
-    (code stacks all : List Row) (closed : AreClosedRows slots frames l last code stacks all) (seen : ClosedSeen) (seats : AreClosedSeats after last code stacks seen) where
+    (code stacks all : List Row) (closed : AreClosedRows slots frames l last code stacks all) (seen : ClosedSeen) (seats : AreClosedSeats slots frames l after last code stacks seen) where
   stack-kinds : (r : Row) → Contains stacks r → r.kind ≡ Stack
   stack-kinds r c =
       let of = filter-from (λ (x : Row). is_same_kind Stack x.kind) (last-rows slots frames l script last run).rows r (subst (λ xs. Contains xs r) (stacks-are slots frames l script last run code stacks all closed) c) in
@@ -72,6 +75,9 @@ module _ (slots frames : ℕ) (l : Lines) (script : List Step) (s : Shared) (bef
     deeds = seats.deeds_are;
     busy = busy-full slots frames l script last run;
     seats = ap length seats.seats_are ∙ length-map after (λ (h : Hands). h.seat) ∙ ran.count;
+    shape = seats.shape_is;
     told = told-in slots frames l s before after books ran seen.seats seats.seats_are;
     rows = seats.rows_are ∙ code-are slots frames l script last run code stacks all closed ∙ ap (of_row_kind Code) (sym (all-are slots frames l script last run code stacks all closed));
+    unmaps = seats.unmaps;
+    unmapped = seats.unmapped;
   }

@@ -13,7 +13,7 @@ use Rattle.ad_call.specs.Asked.{asked_in_call}
 use Rattle.ad_core.specs.Turn.{IsLawful}
 use Rattle.ad_lines.specs.Sound.{IsSoundRun, Lines, Outcome, entries_by}
 use Rattle.ad_maps.specs.declared.view.Act.{Act}
-use Rattle.ad_maps.specs.Rows.{ClosedSeen}
+use Rattle.ad_maps.specs.Rows.{ClosedSeen, HaveUnmappedRows, HaveUnmapsTold}
 use Rattle.ad_mover.specs.Moves.{MakesSteps, Moving}
 use Rattle.ad_run.specs.Calls.{calls_of_worker}
 use Rattle.ad_run.specs.Opened.{new_moving, opening_in_frames, shape_for}
@@ -22,7 +22,8 @@ use Rattle.ad_wrapper.specs.declared.hands.Ready.{Ready}
 use Rattle.ad_wrapper.specs.Performed.{acts_of_call, call_for}
 
 -- A worker's call of this step, as its list and its module's book tell it: the entry is of the step, and the list has what the
--- plain machine's run of that call asks for, on the book as it was before the entry.
+-- plain machine's run of that call asks for, on the book as it was before the entry. On its way out the worker may unmap mappings:
+-- which, the rows of the closed table say.
 pub record IsTold (l : Lines) (books : List Contents) (worker : ℕ) (step : Ready) (acts : List Act) : Type 0 where
   pub image : Image
   pub loaded : slice_get l.images step.«module» ≡ Some image
@@ -44,16 +45,16 @@ abbrev pub AreTold : Lines → List Contents → ℕ → List Ready → List Act
 AreTold l books worker [] acts = acts ≡ []
 AreTold l books worker (step ∷ steps) acts = (first rest : List Act) × IsTold l books worker step first × AreTold l books worker steps rest × (acts ≡ first ++ rest)
 
--- there is a row for the mapping of this place, of this kind and of this module or worker
-pub record HasRow (rows : List Row) (kind : Kind) (who : ℕ) (e : Row) : Type 0 where
-  pub listed : Contains rows e
-  pub is_kind : e.kind ≡ kind
-  pub is_who : e.who ≡ who
+-- this row is listed, of this kind and of this module or worker
+pub record IsRowOf (rows : List Row) (kind : Kind) (who : ℕ) (r : Row) : Type 0 where
+  pub listed : Contains rows r
+  pub is_kind : r.kind ≡ kind
+  pub is_who : r.who ≡ who
 
 -- in each book the mappings and the stacks that a worker's calls ran on are those of rows, and their numbers never fall
 pub record AreOnRows (o : Outcome) : Type 0 where
-  pub under : (number : ℕ) → IfSome (slice_get o.books number) (λ (b : Contents). (e : Entry) → Contains b.entries e → (r : Row) × HasRow o.rows Code number r × (r.place ≡ e.under))
-  pub stacks : (number : ℕ) → IfSome (slice_get o.books number) (λ (b : Contents). (e : Entry) → Contains b.entries e → (r : Row) × HasRow o.rows Stack e.worker r × (r.place ≡ e.stack))
+  pub under : (number : ℕ) → IfSome (slice_get o.books number) (λ (b : Contents). (e : Entry) → Contains b.entries e → (r : Row) × IsRowOf o.rows Code number r × (r.place ≡ e.under))
+  pub stacks : (number : ℕ) → IfSome (slice_get o.books number) (λ (b : Contents). (e : Entry) → Contains b.entries e → (r : Row) × IsRowOf o.rows Stack e.worker r × (r.place ≡ e.stack))
   pub rise : (number worker : ℕ) → IfSome (slice_get o.books number) (λ (b : Contents). AllPairs (λ (d e : Entry). d.under.mapping ≤ e.under.mapping) (entries_by worker b.entries))
   pub stacks_rise : (number worker : ℕ) → IfSome (slice_get o.books number) (λ (b : Contents). AllPairs (λ (d e : Entry). d.stack.mapping ≤ e.stack.mapping) (entries_by worker b.entries))
 
@@ -61,8 +62,8 @@ pub record AreOnRows (o : Outcome) : Type 0 where
 abbrev pub of_module : ℕ → List Mapping → List Mapping
 of_module who ms = filter (λ (m : Mapping). is_same_kind Code m.kind && (m.who == who)) ms
 
--- Of moves, where these mappings were made before: one that is busy has as many mappings of its module before it as the module
--- has frames
+-- Of moves, where these mappings were made before: one that is busy has at least as many mappings of its module before it as the
+-- module has frames
 abbrev pub AreBusyFull : ℕ → List Mapping → List Moved → Type 0
 AreBusyFull frames before [] = Unit {0}
 AreBusyFull frames before (x ∷ xs) = ((owner : ℕ) → x.end ≡ ends.Busy owner → frames ≤ length (of_module x.who before)) × AreBusyFull frames (before ++ made_mapping x) xs
@@ -78,10 +79,16 @@ pub record IsRunBeside (slots frames : ℕ) (l : Lines) (script : List Step) (o 
   pub made : MakesSteps (shape_for slots frames l) script (new_moving l (shape_for slots frames l)) last
   pub moves : o.moves ≡ last.moves
   pub deeds : closed.mover.deeds ≡ last.deeds
-  -- a module is busy only where each of its frames was taken before
+  -- a module is busy only where at least as many mappings of it were made before as it has frames
   pub busy : AreBusyFull frames (opening_in_frames frames l) o.moves
+  -- the table that was closed has so many slots and frames, and these modules
+  pub shape : closed.shape ≡ shape_for slots frames l
   -- the list of each worker has its calls, in order, and nothing else
   pub seats : length closed.seats ≡ l.workers
   pub told : (w : ℕ) → w < l.workers → IsSomeAnd (slice_get closed.seats w) (λ s. AreTold l o.books w (calls_of_worker w l.steps) s.acts)
   -- the rows of the closed table are the ledger's of movable parts, in order
   pub rows : closed.rows ≡ filter (λ (r : Row). is_same_kind Code r.kind) o.rows
+  -- the unmap of each row that was unmapped stands once in the lists of all seats together
+  pub unmaps : HaveUnmapsTold closed.rows closed.mover.deeds closed.seats
+  -- and no other unmap stands there
+  pub unmapped : HaveUnmappedRows closed.rows closed.mover.deeds closed.seats

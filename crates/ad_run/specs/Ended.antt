@@ -45,8 +45,8 @@ pub record AreAllWorkers (s : Shared) (jobs : List Job) : Type 0 where
   pub in_turns : length hands ≡ length s.turns.calls
   pub each : (w : ℕ) (h : Hands) → slice_get hands w ≡ Some h → AreHandsOf s h × (h.worker ≡ w)
 
--- what is to be run on these tables: modules that were loaded, and steps that are ready
-pub record IsToRun (slots frames : ℕ) (l : Lines) (script : List Step) : Type 0 where
+-- what is to be run: modules that were loaded, steps that are ready, and from 1 to MODULE_FRAMES frames for each module
+pub record IsToRun (frames : ℕ) (l : Lines) (script : List Step) : Type 0 where
   pub loaded : AreLoaded l.seed l.workers l.images
   pub steps_are : AreSteps l.images l.workers l.steps
   pub ready : ready_steps l.images script ≡ Ok l.steps
@@ -64,7 +64,7 @@ pub record HaveMadeCalls (s : Shared) (l : Lines) (jobs : List Job) : Type 0 whe
 
 -- and the mover its moves
 pub record HasEnded (slots frames : ℕ) (l : Lines) (script : List Step) (s : Shared) (jobs : List Job) (m : Mover) : Type 0 where
-  pub to_run : IsToRun slots frames l script
+  pub to_run : IsToRun frames l script
   pub opened : IsOpenedFor slots frames l s
   pub calls : HaveMadeCalls s l jobs
   pub made : MakesSteps (shape_for slots frames l) script (new_moving l (shape_for slots frames l)) (moving m)

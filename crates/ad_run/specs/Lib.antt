@@ -4,3 +4,4 @@ pub mod Opened
 pub mod Rows
 pub mod Beside
 pub mod Ended
+pub mod Stale

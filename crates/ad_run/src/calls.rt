@@ -1,6 +1,6 @@
-//! The calls of a worker.
+//! The calls of the workers.
 
-ghost use Rattle.std.specs.Prelude.{◌≡◌, ◌++◌, map, IfOk, OnOk, option_to_list};
+ghost use Rattle.std.specs.Prelude.{◌≡◌, ◌++◌, length, map, IfOk, OnOk, option_to_list};
 ghost use Rattle.std.specs.List.{range_with_len};
 ghost use Rattle.ad_run.specs.Calls.{call_of, calls_at, calls_of_worker};
 
@@ -10,8 +10,24 @@ use ad_turns::Counts;
 use ad_wrapper::Ready;
 use std::alloc::Global;
 
+/// The calls of each of so many workers among the steps, in order. The one error is want of memory.
+pub fn calls_of_workers(
+    alloc: Global,
+    workers: u64,
+    steps: &[ReadyStep],
+) -> Result<Vec<Vec<Ready>>, OutOfMemory>
+    ensures count { IfOk result (λ lists. length lists.items ≡ workers) }
+    ensures calls { IfOk result (λ lists. map (λ calls. calls.items) lists.items ≡ map (λ w. calls_of_worker w steps.now) (range_with_len 0 workers)) }
+{
+    let mut lists = Vec::new(alloc);
+    for worker in 0..workers {
+        lists.push(calls_of_worker(alloc, worker, steps)?)?;
+    }
+    Ok(lists)
+}
+
 /// The calls of a worker among the steps, in order. The one error is want of memory.
-pub fn calls_of_worker(
+fn calls_of_worker(
     alloc: Global,
     worker: u64,
     steps: &[ReadyStep],

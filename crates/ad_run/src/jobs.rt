@@ -2,18 +2,15 @@
 
 ghost use Rattle.std.specs.Prelude.{◌≡◌, length, map, IfOk, Some};
 ghost use Rattle.std.specs.List.{range_with_len};
-ghost use Rattle.ad_run.specs.Calls.{calls_of_worker};
 ghost use Rattle.ad_wrapper.specs.declared.hands.Hands.{Hands};
 
-use crate::calls::calls_of_worker;
 use crate::threads::Job;
 use ad_base::OutOfMemory;
 use ad_call::StackBytes;
-use ad_lines::ReadyStep;
 use ad_maps::Seat;
 use ad_stacks::StackSeat;
 use ad_turns::TurnSeat;
-use ad_wrapper::Hands;
+use ad_wrapper::{Hands, Ready};
 use std::alloc::Global;
 
 /// What each worker has in hand: its seats in the three tables, which stand in order of worker, and the bytes of a stack.
@@ -46,21 +43,22 @@ pub fn hands_of(
     Ok(hands)
 }
 
-/// The workers with these in hand, and their calls among the steps. The one error is want of memory.
+/// The workers with these in hand, and with these calls, in order. The one error is want of memory.
 pub fn jobs_of(
     alloc: Global,
     hands: Vec<Hands>,
-    steps: &[ReadyStep],
+    lists: Vec<Vec<Ready>>,
 ) -> Result<Vec<Job>, OutOfMemory>
+    requires { length lists.items ≡ length hands.items }
     ensures hands { IfOk result (λ jobs. map (λ j. j.hands) jobs.items ≡ map (λ (h : Hands). Some h) hands.items) }
-    ensures calls { IfOk result (λ jobs. map (λ j. j.calls.items) jobs.items ≡ map (λ (h : Hands). calls_of_worker h.worker steps.now) hands.items) }
+    ensures calls { IfOk result (λ jobs. map (λ j. j.calls) jobs.items ≡ lists.items) }
 {
     let mut jobs = Vec::new(alloc);
+    let mut lists = lists.into_iter();
     for hands in hands {
-        let calls = calls_of_worker(alloc, hands.worker, steps)?;
         jobs.push(Job {
             hands: Some(hands),
-            calls,
+            calls: lists.next().unwrap(),
         })?;
     }
     Ok(jobs)

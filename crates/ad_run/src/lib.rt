@@ -4,6 +4,7 @@
 mod calls;
 mod close;
 mod jobs;
+mod laws;
 mod open;
 mod rows;
 mod run;
@@ -12,5 +13,6 @@ mod threads;
 mod worker;
 
 pub use close::RunEnd;
+pub use laws::law_stale_addresses;
 pub use open::Sizes;
 pub use run::run_lines;

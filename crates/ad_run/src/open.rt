@@ -16,7 +16,7 @@ ghost use Rattle.ad_run.specs.Opened.{draws_for, drawn_mappings, opening_for, sh
 ghost use Rattle.ad_stacks.specs.Seen as stacks;
 ghost use Rattle.ad_turns.specs.Seen as turns;
 
-use crate::calls::{calls_of_worker, draws_for};
+use crate::calls::{calls_of_workers, draws_for};
 use crate::jobs::{hands_of, jobs_of};
 use crate::seats::{SeatLists, room_for};
 use crate::threads::Job;
@@ -28,7 +28,7 @@ use ad_place::Placer;
 use ad_script::SCRIPT_LINES;
 use ad_stacks::{StackMover, StackSeat, Stacks};
 use ad_turns::{Counts, TurnSeat, Turns};
-use ad_wrapper::Shared;
+use ad_wrapper::{Ready, Shared};
 use std::alloc::Global;
 
 /// How large the mapping table of a run is.
@@ -80,9 +80,10 @@ pub fn open(
 {
     let (maps, seat, seats) = open_maps(alloc, &images, workers, &placer, sizes)?;
     let (stacks, stack_mover, stack_seats) = open_stacks(alloc, &images, workers, &placer)?;
-    let (turns, turn_seats) = open_turns(alloc, &images, workers, steps)?;
+    let calls = calls_of_workers(alloc, workers, steps)?;
+    let (turns, turn_seats) = open_turns(alloc, &images, &calls, steps)?;
     let hands = hands_of(alloc, seats, stack_seats, turn_seats)?;
-    let jobs = jobs_of(alloc, hands, steps)?;
+    let jobs = jobs_of(alloc, hands, calls)?;
     let mover = new_mover(alloc, workers, placer, seat, stack_mover, steps)?;
     let lists = room_for(alloc, workers)?;
     let shared = Shared {
@@ -144,23 +145,25 @@ fn open_stacks(
     Stacks::open(alloc, &places)
 }
 
-/// Opens the turn table with the books of these images before the first call, and with room for the calls of these steps.
+/// Opens the turn table with the books of these images before the first call, and with room for the calls of these steps,
+/// which are those of these workers.
 fn open_turns(
     alloc: Global,
     images: &[Image],
-    workers: u64,
+    calls: &[Vec<Ready>],
     steps: &[ReadyStep],
 ) -> Result<(Turns, Vec<TurnSeat>), OutOfMemory>
-    requires some_worker { 1 ≤ workers }
-    requires few_workers { workers ≤ 64 }
+    requires some_worker { 1 ≤ length calls.now }
+    requires few_workers { length calls.now ≤ 64 }
     requires few_modules { length images.now ≤ 8 }
+    requires calls { map (λ list. list.items) calls.now ≡ map (λ w. calls_of_worker w steps.now) (range_with_len 0 (length calls.now)) }
     ensures books { IfOk result (λ opened. map contents_of opened.0.openings ≡ map opening_contents images.now) }
-    ensures calls { let l : Lines = record { seed = 0; workers = workers; images = images.now; fuel = 0; steps = steps.now } in
-        IfOk result (λ opened. opened.0.calls ≡ map (draws_for l) (range_with_len 0 workers)) }
+    ensures calls { let l : Lines = record { seed = 0; workers = length calls.now; images = images.now; fuel = 0; steps = steps.now } in
+        IfOk result (λ opened. opened.0.calls ≡ map (draws_for l) (range_with_len 0 (length calls.now))) }
     ensures seats { IfOk result (λ opened. turns.AreNew opened.0.table opened.0.calls opened.1.items) }
 {
     let books = books_of(alloc, images, steps)?;
-    let draws = draws_of(alloc, workers, images.len() as u64, steps)?;
+    let draws = draws_of(alloc, images.len() as u64, calls)?;
     Turns::open(alloc, books, &draws)
 }
 
@@ -237,31 +240,14 @@ fn books_of(alloc: Global, images: &[Image], steps: &[ReadyStep]) -> Result<Vec<
     Ok(books)
 }
 
-/// The draws of each worker: for each module as many as it makes calls of it.
-fn draws_of(
-    alloc: Global,
-    workers: u64,
-    modules: u64,
-    steps: &[ReadyStep],
-) -> Result<Vec<Counts>, OutOfMemory>
-    ensures { IfOk result (λ draws. draws.items ≡ map (λ w. map (λ m. calls_at m (calls_of_worker w steps.now)) (range_with_len 0 modules)) (range_with_len 0 workers)) }
+/// The draws of each worker of these calls: for each of so many modules as many as it makes calls of it. The one error is want of
+/// memory.
+fn draws_of(alloc: Global, modules: u64, calls: &[Vec<Ready>]) -> Result<Vec<Counts>, OutOfMemory>
+    ensures { IfOk result (λ draws. draws.items ≡ map (λ list. map (λ m. calls_at m list.items) (range_with_len 0 modules)) calls.now) }
 {
     let mut draws = Vec::new(alloc);
-    for worker in 0..workers {
-        draws.push(draws_by(alloc, worker, modules, steps)?)?;
+    for list in calls {
+        draws.push(draws_for(alloc, modules, list.as_slice())?)?;
     }
     Ok(draws)
-}
-
-/// The draws of a worker.
-fn draws_by(
-    alloc: Global,
-    worker: u64,
-    modules: u64,
-    steps: &[ReadyStep],
-) -> Result<Counts, OutOfMemory>
-    ensures { IfOk result (λ draws. draws ≡ map (λ m. calls_at m (calls_of_worker worker steps.now)) (range_with_len 0 modules)) }
-{
-    let calls = calls_of_worker(alloc, worker, steps)?;
-    draws_for(alloc, modules, &calls)
 }

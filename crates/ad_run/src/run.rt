@@ -1,6 +1,6 @@
 //! A run of a script's lines, with threads.
 
-ghost use Rattle.std.specs.Prelude.{◌≡◌, ◌≤◌, length, map, All, IfOk, Ok};
+ghost use Rattle.std.specs.Prelude.{◌≡◌, ◌≤◌, map, All, IfOk, Ok};
 ghost use Rattle.ad_base.specs.Book.{contents_of};
 ghost use Rattle.ad_lines.specs.LineLaws.{AreSteps};
 ghost use Rattle.ad_lines.specs.Opening.{opening_drawn, AreLoaded};
@@ -16,7 +16,7 @@ use ad_base::{Gate, Image, OutOfMemory};
 use ad_lines::ReadyStep;
 use ad_maps::{LINES, MODULE_FRAMES, SLOTS};
 use ad_place::Placer;
-use ad_script::{SCRIPT_LINES, Step};
+use ad_script::Step;
 use std::alloc::Global;
 use std::sync::Wait;
 use std::thread::Threads;
@@ -43,7 +43,6 @@ pub fn run_lines<R: Threads + Wait + Sync, G: Gate + Sync>(
     requires drawn { placer ≡ opening_drawn placer.seed workers images.items }
     requires steps { AreSteps images.items workers steps.now }
     requires ready { ready_steps images.items script.now ≡ Ok steps.now }
-    requires lines { length steps.now ≤ SCRIPT_LINES }
     requires few_lines { All (λ (step : Step). line_of step ≤ LINES) script.now }
     requires some_slot { 1 ≤ sizes.slots }
     requires few_slots { sizes.slots ≤ SLOTS }

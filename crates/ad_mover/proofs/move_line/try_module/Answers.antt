@@ -31,6 +31,7 @@ returns-in-Ok-clause-comes c =
         found.within,
         found.last,
         placed.place ∙ (λ i. record (next_place c.args.mover.now.placer kinds.Code (opening_of shape c.args.module).place.pages) { frame = found.frame i }),
+        found.owned,
       );
       is = refl;
       drawn = placed.placer;
@@ -45,7 +46,7 @@ pub returns-in-Err-clause-comes : goal.returns-in-Err-clause-comes
 returns-in-Err-clause-comes c =
     let none = c.in-Err.ensures.none in record {
       outcome = AllOwned none.owners c.in-Err.busy.owner;
-      may = ((let v = c.left.ensures.value in let some = c.if-left-eq0.false in omega arith), none.all, none.last);
+      may = ((let v = c.left.ensures.value in let some = c.if-left-eq0.false in omega arith), none.all, none.last, none.owned);
       is = refl;
       drawn = refl;
       deeds = none.looks;

@@ -1,6 +1,6 @@
 use Rattle.std.proofs.Common.{◌≡◌, ◌++◌, ◌∙◌, length, map, refl, sym, ap, subst}
 use Rattle.ad_maps.specs.Ledger.{all_made}
-use Rattle.ad_maps.specs.Rows.{AreAllSeats, AreRowsOf, HaveReadRows, HaveRowOfEach}
+use Rattle.ad_maps.specs.Rows.{AreAllSeats, AreRowsOf, HaveReadRows, HaveRowOfEach, HaveUnmappedRows, HaveUnmapsTold}
 use Rattle.ad_mover.specs.Seen.{moving}
 use Rattle.ad_run.specs.Rows.{fixed_rows, AreMerged}
 use Rattle.ad_run.proofs.AllRows.{AreClosedRows, IsMoverRun}
@@ -76,11 +76,15 @@ returns c = λ slots frames l script ended.
       once = c.in_ok-stack_rows.ensures.unmapped;
       merged = subst (λ xs. AreMerged xs all) parts c.in_ok-rows.ensures;
     } in
-    let seats : AreClosedSeats calls.after last code stacks seen = record {
+    let deeds = ap (λ m. m.deeds) c.in_ok-closed.ensures.mover in
+    let seats : AreClosedSeats slots frames l calls.after last code stacks seen = record {
+      shape_is = c.in_ok-closed.ensures.shape ∙ ended.opened.shape;
       rows_are = refl;
-      deeds_are = ap (λ m. m.deeds) c.in_ok-closed.ensures.mover;
+      deeds_are = deeds;
       seats_are = c.in_ok-closed.ensures.seats ∙ map_seats;
       reads = subst (HaveReadRows code) map_seats c.in_ok-closed.ensures.reads;
       took = subst (HaveRows stacks) stack_seats c.in_ok-stack_rows.ensures.taken;
+      unmaps = subst (λ ds. HaveUnmapsTold code ds seen.seats) (sym deeds) (subst (HaveUnmapsTold code last.deeds) (sym c.in_ok-closed.ensures.seats) c.in_ok-closed.ensures.unmaps);
+      unmapped = subst (λ ds. HaveUnmappedRows code ds seen.seats) (sym deeds) (subst (HaveUnmappedRows code last.deeds) (sym c.in_ok-closed.ensures.seats) c.in_ok-closed.ensures.unmapped);
     } in
     run-beside slots frames l script s calls.before calls.after books ran last run code stacks all closed seen seats

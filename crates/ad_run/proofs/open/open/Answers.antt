@@ -1,6 +1,7 @@
-use Rattle.std.proofs.Common.{◌≡◌, ℕ, List, [], ◌∙◌, ap, length, map, refl, sym}
+use Rattle.std.proofs.Common.{◌≡◌, List, [], ◌∙◌, Vec, Global, ap, length, map, refl, sym, arith}
 use Rattle.std.specs.List.{range_with_len}
-use Rattle.std.proofs.lemmas.List.FromFn.{length-map-range_with_len}
+use Rattle.std.proofs.lemmas.List.{length-map}
+use Rattle.std.proofs.lemmas.List.FromFn.{length-map-range_with_len, length-range_with_len}
 use Rattle.std.proofs.lemmas.Simd.{map-map}
 use Rattle.ad_base.specs.declared.image.Image.{Image}
 use Rattle.ad_base.specs.declared.ledger.Kind.TheVariants.{Stack}
@@ -9,6 +10,7 @@ use Rattle.ad_lines.specs.Opening.{places_of_kind}
 use Rattle.ad_lines.specs.Sound.{Lines}
 use Rattle.ad_maps.specs.Seen as maps
 use Rattle.ad_mover.specs.Seen.{moving}
+use Rattle.ad_run.specs.declared.threads.Job.{Job}
 use Rattle.ad_run.specs.Calls.{calls_of_worker}
 use Rattle.ad_run.specs.Jobs.{AreNewJobs}
 use Rattle.ad_run.specs.Opened.{draws_for, drawn_mappings, new_moving, shape_for}
@@ -17,6 +19,7 @@ use Rattle.ad_run.proofs.OpeningJobs.{new-hands, new-ready}
 use Rattle.ad_run.proofs.OpeningMover.{new-is-mover}
 use Rattle.ad_stacks.specs.Seen as stacks
 use Rattle.ad_wrapper.specs.declared.hands.Hands.{Hands}
+use Rattle.ad_wrapper.specs.declared.hands.Ready.{Ready}
 use Rattle.ad_wrapper.specs.declared.shared.Shared.{Shared}
 use Rattle.ad_run.proofs.open.open.Goals as goal
 
@@ -26,9 +29,21 @@ lines_of c = record { seed = c.args.placer.seed; workers = c.args.workers; image
 abbrev shared_of : goal.After-of → Shared
 shared_of c = record { maps = c.in_ok-maps.maps; stacks = c.in_ok-stacks.stacks; turns = c.in_ok-turns.turns; images = c.of.result; fuel = c.args.fuel }
 
+pub open_turns-requires-clause-calls : goal.open_turns-requires-clause-calls
+open_turns-requires-clause-calls c =
+    ap (map (λ (list : Vec Ready Global). list.items)) c.deref-4.ensures.value
+    ∙ c.in_ok-calls.ensures.calls
+    ∙ ap (λ n. map (λ w. calls_of_worker w c.args.steps.now) (range_with_len 0 n)) (sym (ap length c.deref-4.ensures.value ∙ c.in_ok-calls.ensures.count))
+
+pub jobs_of-requires : goal.jobs_of-requires
+jobs_of-requires c =
+    let hands = ap length c.in_ok-hands.ensures.workers ∙ length-range_with_len 0 (length c.in_ok-maps.seats.items) in
+    let workers = length-map c.in_ok-hands.hands.items (λ (h : Hands). h.worker) in
+    omega (arith, hands, workers, c.in_ok-maps.ensures.seats.count, c.in_ok-calls.ensures.count)
+
 pub hands_of-requires-clause-in_turns : goal.hands_of-requires-clause-in_turns
 hands_of-requires-clause-in_turns c =
-    c.in_ok-turns.ensures.seats.count ∙ ap length c.in_ok-turns.ensures.calls ∙ length-map-range_with_len _ 0 c.args.workers ∙ sym c.in_ok-maps.ensures.seats.count
+    c.in_ok-turns.ensures.seats.count ∙ ap length c.in_ok-turns.ensures.calls ∙ length-map-range_with_len _ 0 (length c.deref-4.result.now) ∙ ap length c.deref-4.ensures.value ∙ c.in_ok-calls.ensures.count ∙ sym c.in_ok-maps.ensures.seats.count
 
 images_are : (c : goal.After-of) → (shared_of c).images ≡ (lines_of c).images
 images_are c = c.of.ensures
@@ -46,7 +61,8 @@ lanes_are c =
 calls_are : (c : goal.After-of) → (shared_of c).turns.calls ≡ map (draws_for (lines_of c)) (range_with_len 0 c.args.workers)
 calls_are c =
     c.in_ok-turns.ensures.calls
-    ∙ ap (λ (is : List Image). map (draws_for (record { seed = 0; workers = c.args.workers; images = is; fuel = 0; steps = c.args.steps.now })) (range_with_len 0 c.args.workers)) c.deref-3.ensures.value
+    ∙ ap (λ (is : List Image). map (draws_for (record { seed = 0; workers = c.args.workers; images = is; fuel = 0; steps = c.args.steps.now })) (range_with_len 0 (length c.deref-4.result.now))) c.deref-3.ensures.value
+    ∙ ap (λ n. map (draws_for (lines_of c)) (range_with_len 0 n)) (ap length c.deref-4.ensures.value ∙ c.in_ok-calls.ensures.count)
 
 pub returns-clause-opened : goal.returns-clause-opened
 returns-clause-opened c =
@@ -64,7 +80,6 @@ returns-clause-opened c =
 jobs_are : (c : goal.After-of) → AreNewJobs (shared_of c) (lines_of c) c.in_ok-jobs.jobs.items
 jobs_are c =
     let made = c.in_ok-hands.ensures in
-    let steps = c.args.steps.now in
     record {
       hands = c.in_ok-hands.hands.items;
       have = c.in_ok-jobs.ensures.hands;
@@ -72,10 +87,9 @@ jobs_are c =
           c.in_ok-stacks.ensures.seats c.in_ok-turns.ensures.seats (calls_are c)
           (record { workers_are = made.workers; seats_are = made.seats; stack_seats_are = made.stack_seats; turn_seats_are = made.turn_seats });
       calls =
-          c.in_ok-jobs.ensures.calls
-          ∙ sym (map-map (λ (w : ℕ). calls_of_worker w steps) (λ (h : Hands). h.worker) c.in_ok-hands.hands.items)
-          ∙ ap (map (λ (w : ℕ). calls_of_worker w steps)) made.workers
-          ∙ ap (λ n. map (λ (w : ℕ). calls_of_worker w steps) (range_with_len 0 n)) c.in_ok-maps.ensures.seats.count;
+          sym (map-map (λ (list : Vec Ready Global). list.items) (λ (j : Job). j.calls) c.in_ok-jobs.jobs.items)
+          ∙ ap (map (λ (list : Vec Ready Global). list.items)) c.in_ok-jobs.ensures.calls
+          ∙ c.in_ok-calls.ensures.calls;
     }
 
 pub returns-clause-jobs : goal.returns-clause-jobs

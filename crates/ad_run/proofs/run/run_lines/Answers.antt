@@ -10,10 +10,17 @@ use Rattle.ad_run.specs.declared.close.RunEnd.{RunEnd}
 use Rattle.ad_run.specs.Beside.{IsRunBeside}
 use Rattle.ad_run.specs.Ended.{HasEnded}
 use Rattle.ad_run.specs.Opened.{new_moving, HasRoomFor}
-use Rattle.ad_run.proofs.Ending.{HaveWorked, all-workers, count-all, if-ok, made-calls, may-all, same-moves}
+use Rattle.ad_run.proofs.Ending.{HaveWorked, all-workers, count-all, few-steps, if-ok, made-calls, may-all, same-moves}
 use Rattle.ad_run.proofs.ScriptSteps.{ready-script}
 use Rattle.ad_script.specs.declared.script.Step.{Step}
 use Rattle.ad_run.proofs.run.run_lines.Goals as goal
+
+pub open-requires-clause-lines : goal.open-requires-clause-lines
+open-requires-clause-lines g c =
+    let script = c.args.script.now in
+    let steps = c.args.steps.now in
+    let ready = ready-script c.args.images.items c.args.workers script steps c.requires.ready c.requires.steps.runnable c.requires.steps.from_one in
+    few-steps c.args.images.items c.args.workers script steps ready c.requires.steps c.requires.few_lines
 
 pub run_beside-jobs-requires-clause-done : goal.run_beside-jobs-requires-clause-done
 run_beside-jobs-requires-clause-done g c =
