@@ -18,10 +18,10 @@ use Rattle.ad_script.specs.Script.{script_of}
 use Rattle.ad_command.specs.declared.trouble.Trouble.{Trouble}
 use Rattle.ad_command.specs.declared.trouble.Trouble.TheVariants.{NoExport, TooLarge, Usage}
 use Rattle.ad_command.specs.Chain.{Chain, Done, Gives, Judge, ModuleFile, Refuse, ◌>>=◌, each_in_turn, given, judged}
-use Rattle.ad_command.specs.Command.{Generated, Job, Lines, Predicted, Shown, Work, command, job_built, job_from, job_in, job_of, shown_at, shown_in, work_of}
+use Rattle.ad_command.specs.Command.{Beside, Generated, Job, Lines, Predicted, Shown, Work, command, job_built, job_from, job_in, job_of, shown_at, shown_in, work_of}
 use Rattle.ad_command.specs.Loading.{AreLinked, IsLinked, built_of, file_of, fixed_behind, image_at, loaded_image, loaded_images, module_of, script_built, script_in}
 use Rattle.ad_command.specs.Trouble.{refused_module, refused_script}
-use Rattle.ad_words.specs.Words.{Command, Gen, Predict, Seq, Show, command_of}
+use Rattle.ad_words.specs.Words.{Command, Gen, Predict, Run, Seq, Show, command_of}
 use Rattle.ad_command.proofs.Chains.{gives-behind, gives-last}
 
 module _ (files : List ℕ → List ℕ) where
@@ -146,6 +146,9 @@ module _ (files : List ℕ → List ℕ) (words : List (List ℕ)) (operand : Li
   -- the work on the job of these words
   right-work-gives : (work_on : Job → Work) → Gives files (job_in operand seed fuel >>= λ j. Done (work_on j)) (operand ∷ names) (Ok (work_on right_job))
   right-work-gives work_on = gives-last files (job_in operand seed fuel) (λ j. Done (work_on j)) (operand ∷ names) right_job (Ok (work_on right_job)) right-job-gives (refl, refl)
+
+  pub right-run-is-done : (slots frames : ℕ) → command_of words ≡ Some (Run operand seed fuel slots frames) → Gives files (command words) (operand ∷ names) (Ok (Beside slots frames right_job))
+  right-run-is-done slots frames is = by-words files words (Run operand seed fuel slots frames) (operand ∷ names) (Ok (Beside slots frames right_job)) is (right-work-gives (Beside slots frames))
 
   pub right-seq-is-done : command_of words ≡ Some (Seq operand seed fuel) → Gives files (command words) (operand ∷ names) (Ok (Lines right_job))
   right-seq-is-done is = by-words files words (Seq operand seed fuel) (operand ∷ names) (Ok (Lines right_job)) is (right-work-gives Lines)

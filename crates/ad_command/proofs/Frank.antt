@@ -1,5 +1,5 @@
 -- Which faults of a command tell of its files: a failed read where the count of faults rose, and names that were asked for
--- last.
+-- last. None tells of writing.
 use Rattle.std.proofs.Common.{◌≡◌, ◌≢◌, ◌⊎◌, ℕ, Bool, true, false, List, [], ◌∷◌, ◌++◌, Option, None, Some, Result, Ok, Err, inl, inr, ⊎_elim, sym, ap, ◌∙◌, length}
 use Rattle.std.specs.Prelude.{nat_lt, if◌then◌else◌}
 use Rattle.ad_base.specs.Count.{Rose}
@@ -20,27 +20,29 @@ use Rattle.ad_script.specs.declared.script.Script.{Script}
 use Rattle.ad_script.specs.Script.{script_of}
 use Rattle.std.specs.Option.{option_map_or}
 use Rattle.ad_command.specs.declared.trouble.Trouble.{Trouble}
-use Rattle.ad_command.specs.declared.trouble.Trouble.TheVariants.{Memory, Module, NoExport, Read, TooLarge, Usage}
+use Rattle.ad_command.specs.declared.trouble.Trouble.TheVariants.{Memory, Module, NoExport, Read, TooLarge, Usage, Write}
 use Rattle.ad_command.specs.Chain.{Ask, Chain, Done, Judge, MayEnd, ModuleFile, Refuse, Verdict, ◌>>=◌, each_in_turn, given, judged}
-use Rattle.ad_command.specs.Command.{Generated, Lines, Predicted, Shown, command, job_built, job_from, job_in, job_of, shown_in, work_of}
+use Rattle.ad_command.specs.Command.{Beside, Generated, Lines, Predicted, Shown, command, job_built, job_from, job_in, job_of, shown_in, work_of}
 use Rattle.ad_command.specs.Loading.{built_of, file_of, fixed_behind, image_at, loaded_image, loaded_images, module_of, script_built, script_in}
 use Rattle.ad_command.specs.Trouble.{refused_module, refused_script}
-use Rattle.ad_words.specs.Words.{Command, Gen, Predict, Seq, Show, command_of}
+use Rattle.ad_words.specs.Words.{Command, Gen, Predict, Run, Seq, Show, command_of}
 
--- a fault that doesn't tell of reading a file
+-- a fault that doesn't tell of reading a file or of writing
 pub record IsPlain (t : Trouble) : Type 0 where
   pub no_read : (name : List ℕ) → t ≢ Read name
   pub not_large : (name : List ℕ) → t ≢ TooLarge name
+  pub no_write : t ≢ Write
 
--- A chain never refuses as if a file couldn't be read, and tells only the file as too large that it asked for last.
+-- A chain never refuses as if a file couldn't be read or nothing be written, and tells only the file as too large that it asked
+-- for last.
 abbrev pub IsFrank : {A : Type 0} → Option (List ℕ) → Chain A → Type 0
 IsFrank last (Done a) = Unit {0}
-IsFrank last (Refuse t) = ((name : List ℕ) → t ≢ Read name) × ((name : List ℕ) → t ≡ TooLarge name → last ≡ Some name)
+IsFrank last (Refuse t) = ((name : List ℕ) → t ≢ Read name) × ((name : List ℕ) → t ≡ TooLarge name → last ≡ Some name) × (t ≢ Write)
 IsFrank last (Ask name next) = (file : List ℕ) → IsFrank (Some name) (next file)
 IsFrank last (Judge q next) = (v : Verdict q) → IsFrank last (next v)
 
 plain-frank : (A : Type 0) (last : Option (List ℕ)) (t : Trouble) → IsPlain t → IsFrank {A = A} last (Refuse t)
-plain-frank A last t plain = (plain.no_read, λ name large. absurd (plain.not_large name large))
+plain-frank A last t plain = (plain.no_read, λ name large. absurd (plain.not_large name large), plain.no_write)
 
 frank-behind : {A B : Type 0} (last : Option (List ℕ)) (c : Chain A) (f : A → Chain B) → IsFrank last c → ((at : Option (List ℕ)) (a : A) → IsFrank at (f a)) → IsFrank last (c >>= f)
 frank-behind last (Done a) f first second = second last a
@@ -53,24 +55,24 @@ frank-judged {A} last trouble plain (Ok a) = tt
 frank-judged {A} last trouble plain (Err e) = plain-frank A last (trouble e) (plain e)
 
 script-plain : (r : ScriptRefusal) → IsPlain (refused_script r)
-script-plain (At line cause) = record { no_read = λ name e. cc; not_large = λ name e. cc }
-script-plain OutOfMemory = record { no_read = λ name e. cc; not_large = λ name e. cc }
+script-plain (At line cause) = record { no_read = λ name e. cc; not_large = λ name e. cc; no_write = λ e. cc }
+script-plain OutOfMemory = record { no_read = λ name e. cc; not_large = λ name e. cc; no_write = λ e. cc }
 
 no-export : (line : ℕ) → IsPlain (NoExport line)
-no-export line = record { no_read = λ name e. cc; not_large = λ name e. cc }
+no-export line = record { no_read = λ name e. cc; not_large = λ name e. cc; no_write = λ e. cc }
 
 usage : IsPlain Usage
-usage = record { no_read = λ name e. cc; not_large = λ name e. cc }
+usage = record { no_read = λ name e. cc; not_large = λ name e. cc; no_write = λ e. cc }
 
 module-plain : (file : List ℕ) (x : Option Reason) → IsPlain (option_map_or (λ (y : Reason). Module file y.stage y.number) x Memory)
-module-plain file None = record { no_read = λ name e. cc; not_large = λ name e. cc }
-module-plain file (Some y) = record { no_read = λ name e. cc; not_large = λ name e. cc }
+module-plain file None = record { no_read = λ name e. cc; not_large = λ name e. cc; no_write = λ e. cc }
+module-plain file (Some y) = record { no_read = λ name e. cc; not_large = λ name e. cc; no_write = λ e. cc }
 
 refused-plain : (file : List ℕ) (r : LinkRefusal) → IsPlain (refused_module file r)
 refused-plain file r = module-plain file (reason_of r)
 
 frank-if : (name file : List ℕ) (b : Bool) → IsFrank (Some name) (if b then Refuse (TooLarge name) else Done file)
-frank-if name file true = (λ n e. cc, λ n e. cc)
+frank-if name file true = (λ n e. cc, λ n e. cc, λ e. cc)
 frank-if name file false = tt
 
 frank-file : (last : Option (List ℕ)) (name : List ℕ) → IsFrank last (file_of name)
@@ -133,6 +135,7 @@ unfolding shown_in
 frank-shown name last = frank-behind last (module_of name) _ (frank-module last name) (λ at p. frank-image at name p _)
 
 frank-work : (last : Option (List ℕ)) (c : Command) → IsFrank last (work_of c)
+frank-work last (Run script seed fuel slots frames) = frank-behind last (job_in script seed fuel) (λ j. Done (Beside slots frames j)) (frank-job-in script seed fuel last) (λ at j. tt)
 frank-work last (Seq script seed fuel) = frank-behind last (job_in script seed fuel) (λ j. Done (Lines j)) (frank-job-in script seed fuel last) (λ at j. tt)
 frank-work last (Predict script seed fuel) = frank-behind last (job_in script seed fuel) (λ j. Done (Predicted j)) (frank-job-in script seed fuel last) (λ at j. tt)
 frank-work last (Show file) = frank-behind last (shown_in file) (λ i. Done (Shown i)) (frank-shown file last) (λ at i. tt)
@@ -160,6 +163,16 @@ read-rose told old new last (Ask asked next) names name frank (inr (inr read)) =
     (later.0, (asked ∷ later.1.0, read.2 ∙ ap (λ ns. asked ∷ ns) later.1.1))
 read-rose told old new last (Judge q next) names name frank (inl none) = absurd (let e = none.2 in cc)
 read-rose told old new last (Judge q next) names name frank (inr verdict) = read-rose told old new last (next verdict.0) names name (frank verdict.0) verdict.2
+
+-- no chain ends as if nothing could be written
+pub no-write : {A : Type 0} (told : Told) (old new : ℕ) (last : Option (List ℕ)) (c : Chain A) (names : List (List ℕ)) → IsFrank last c → MayEnd told old new c names (Err Write) → ⊥
+no-write told old new last (Done a) names frank end = ⊎_elim (λ e. absurd cc) (λ e. absurd cc) end.2
+no-write told old new last (Refuse t) names frank end = ⊎_elim (λ e. let same : t ≡ Write = cc in frank.2 same) (λ e. absurd cc) end.2
+no-write told old new last (Ask asked next) names frank (inl none) = absurd (let e = none.2 in cc)
+no-write told old new last (Ask asked next) names frank (inr (inl failed)) = absurd (let e = failed.2 in cc)
+no-write told old new last (Ask asked next) names frank (inr (inr read)) = no-write told old new (Some asked) (next read.0) read.1 (frank read.0) read.4
+no-write told old new last (Judge q next) names frank (inl none) = absurd (let e = none.2 in cc)
+no-write told old new last (Judge q next) names frank (inr verdict) = no-write told old new last (next verdict.0) names (frank verdict.0) verdict.2
 
 -- a file that is too large was asked for last, of these names or before them
 abbrev EndsSo : Option (List ℕ) → List (List ℕ) → List ℕ → Type 0

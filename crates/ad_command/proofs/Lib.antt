@@ -9,4 +9,5 @@ pub mod Frank
 pub mod Jobs
 pub mod Loads
 pub mod SomeAnswer
+pub mod Tables
 pub mod Worked

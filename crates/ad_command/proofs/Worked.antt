@@ -19,9 +19,17 @@ pub no-operand : (files : List ℕ → List ℕ) → Gives files (command (codes
 unfolding command
 no-operand files = (refl, refl)
 
-pub an-option : (files : List ℕ → List ℕ) → Gives files (command (codes "seq" ∷ codes "-s" ∷ [])) [] (Err Usage)
+pub no-script : (files : List ℕ → List ℕ) → Gives files (command (codes "run" ∷ [])) [] (Err Usage)
 unfolding command
-an-option files = (refl, refl)
+no-script files = (refl, refl)
+
+pub too-many-slots : (files : List ℕ → List ℕ) → Gives files (command (codes "run" ∷ codes "s" ∷ codes "--slots=17" ∷ [])) [] (Err Usage)
+unfolding command
+too-many-slots files = (refl, refl)
+
+pub other-option : (files : List ℕ → List ℕ) → Gives files (command (codes "seq" ∷ codes "-s" ∷ [])) [] (Err Usage)
+unfolding command
+other-option files = (refl, refl)
 
 pub no-lines : (files : List ℕ → List ℕ) → Gives files (command (codes "gen" ∷ codes "0" ∷ [])) [] (Err Usage)
 unfolding command

@@ -1,5 +1,5 @@
 -- The chain of a command.
-use Rattle.std.specs.Prelude.{ℕ, List}
+use Rattle.std.specs.Prelude.{ℕ, Bool, false, List, [], ◌∷◌, bytes_eq, codes}
 use Rattle.ad_base.specs.declared.image.Image.{Image}
 use Rattle.ad_base.specs.declared.layout.TheConstants.{MODULE_REGION}
 use Rattle.ad_base.specs.declared.place.Place.{Place}
@@ -10,7 +10,7 @@ use Rattle.ad_script.specs.declared.script.Script.{Script}
 use Rattle.ad_command.specs.declared.trouble.Trouble.TheVariants.{NoExport, Usage}
 use Rattle.ad_command.specs.Chain.{Chain, Done, ◌>>=◌, given, judged}
 use Rattle.ad_command.specs.Loading.{built_of, image_at, loaded_images, module_of, script_built, script_in}
-use Rattle.ad_words.specs.Words.{Command, Gen, Predict, Seq, Show, command_of}
+use Rattle.ad_words.specs.Words.{Command, Gen, Predict, Run, Seq, Show, command_of}
 
 -- a run that may begin: the seed of its places, the steps that a call may make, the script, the images of its modules,
 -- and its steps
@@ -22,12 +22,15 @@ pub record Job : Type 0 where
   pub steps : List ReadyStep
 
 -- What is done once all files of a command were read:
---     Lines job                 the job's lines are run one after another, and the run is reported
---     Predicted job             what the symbolic machine says of the job's calls is told
---     Shown image               the image of a module is listed
---     Generated number job      the job's lines are run, and the run is summed up as that of so many generated lines
+--     Lines job                     the job's lines are run one after another, and the run is reported
+--     Beside slots frames job       the job's calls may be made in threads beside its moves, over a mapping table of so many slots and of so
+--                                   many frames for each module, and the run is reported
+--     Predicted job                 what the symbolic machine says of the job's calls is told
+--     Shown image                   the image of a module is listed
+--     Generated number job          the job's lines are run, and the run is summed up as that of so many generated lines
 pub data Work : Type 0 where
   Lines : Job → Work
+  Beside : ℕ → ℕ → Job → Work
   Predicted : Job → Work
   Shown : Image → Work
   Generated : ℕ → Job → Work
@@ -50,7 +53,7 @@ job_from script_had module_of seed fuel = do
 abbrev pub job_in : List ℕ → ℕ → ℕ → Chain Job
 job_in name seed fuel = job_from (script_in name) module_of seed fuel
 
--- the job of the script of so many lines, whose modules are built
+-- the job of the script of so many calls and moves, whose modules are built
 abbrev pub job_built : ℕ → ℕ → ℕ → Chain Job
 job_built number seed fuel = job_from (script_built number) built_of seed fuel
 
@@ -66,6 +69,7 @@ shown_in name = do
 
 -- the work of a command
 abbrev pub work_of : Command → Chain Work
+work_of (Run script seed fuel slots frames) = job_in script seed fuel >>= λ j. Done (Beside slots frames j)
 work_of (Seq script seed fuel) = job_in script seed fuel >>= λ j. Done (Lines j)
 work_of (Predict script seed fuel) = job_in script seed fuel >>= λ j. Done (Predicted j)
 work_of (Show file) = shown_in file >>= λ i. Done (Shown i)
@@ -76,3 +80,8 @@ unfoldable pub command : List (List ℕ) → Chain Work
 command words = do
   c ← given Usage (command_of words)
   work_of c
+
+-- the first word is `run`
+abbrev pub begins_with_run : List (List ℕ) → Bool
+begins_with_run [] = false
+begins_with_run (word ∷ words) = bytes_eq word (codes "run")

@@ -3,4 +3,5 @@ pub mod Chain
 pub mod Loading
 pub mod Command
 pub mod Ending
+pub mod Served
 pub mod Private

@@ -28,7 +28,7 @@ script_in name = do
   text ← file_of name
   judged refused_script (script_of text)
 
--- the script of so many lines over the modules that are built
+-- the script of so many calls and moves over the modules that are built
 unfoldable pub script_built : ℕ → Chain Script
 script_built number = judged refused_script (script_of (script_text number))
 

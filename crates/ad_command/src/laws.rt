@@ -13,10 +13,10 @@ ghost use Rattle.ad_script.specs.declared.script.Script.{Script};
 ghost use Rattle.ad_script.specs.declared.refusal.Cause.TheVariants.{Word};
 ghost use Rattle.ad_script.specs.Script.{script_of};
 ghost use Rattle.ad_command.specs.Chain.{Gives};
-ghost use Rattle.ad_command.specs.Command.{Generated, Lines, Predicted, Shown, Work, command, shown_at};
+ghost use Rattle.ad_command.specs.Command.{Beside, Generated, Lines, Predicted, Shown, Work, command, shown_at};
 ghost use Rattle.ad_command.specs.Loading.{AreLinked, IsRefusedLoad, loaded_images, module_of};
 ghost use Rattle.ad_command.specs.Trouble.{refused_module};
-ghost use Rattle.ad_words.specs.Words.{Gen, Predict, Seq, Show, command_of};
+ghost use Rattle.ad_words.specs.Words.{Gen, Predict, Run, Seq, Show, command_of};
 
 use crate::trouble::Trouble;
 use ad_base::FILE_BYTES;
@@ -32,13 +32,15 @@ pub fn law_first_refusal()
         → Gives files (loaded_images module_of seed s) (map (λ x. x.file) linked ++ l.file ∷ []) (Err (refused_module l.file r)) }
 {}
 
-/// Worked chains: words of no command, a command without an operand, a script of no lines that would be built, an option, and a
-/// script of the line `x`.
+/// Worked chains: words of no command, a command without an operand, `run` without one, more slots than a table may have, a script
+/// of no lines that would be built, a word that begins with `-` and is no option, and a script of the line `x`.
 pub fn law_worked_chains()
     ensures task { (files : List ℕ → List ℕ) → Gives files (command (codes "none" ∷ codes "s" ∷ [])) [] (Err Trouble.Usage) }
     ensures operand { (files : List ℕ → List ℕ) → Gives files (command (codes "predict" ∷ [])) [] (Err Trouble.Usage) }
+    ensures no_script { (files : List ℕ → List ℕ) → Gives files (command (codes "run" ∷ [])) [] (Err Trouble.Usage) }
+    ensures slots { (files : List ℕ → List ℕ) → Gives files (command (codes "run" ∷ codes "s" ∷ codes "--slots=17" ∷ [])) [] (Err Trouble.Usage) }
     ensures lines { (files : List ℕ → List ℕ) → Gives files (command (codes "gen" ∷ codes "0" ∷ [])) [] (Err Trouble.Usage) }
-    ensures option { (files : List ℕ → List ℕ) → Gives files (command (codes "seq" ∷ codes "-s" ∷ [])) [] (Err Trouble.Usage) }
+    ensures other_option { (files : List ℕ → List ℕ) → Gives files (command (codes "seq" ∷ codes "-s" ∷ [])) [] (Err Trouble.Usage) }
     ensures script { (files : List ℕ → List ℕ) → files (codes "s") ≡ codes "x\n"
         → Gives files (command (codes "seq" ∷ codes "s" ∷ [])) (codes "s" ∷ []) (Err (Trouble.Script 1 Word)) }
 {}
@@ -58,10 +60,15 @@ pub fn law_some_answer()
 
 /// The chain of right words is done, where the script's file and the files of the modules that it loads aren't too long,
 /// no line of the script is refused, the modules are linked, and each call finds its export. It asks for these files, in order, and
-/// its work is to run the script's lines on those modules, with their parts at the places that the seed draws, or to predict
-/// its calls; or to list the one module that is shown. Right words of `gen` are done whatever the files are, and ask for none: the
+/// its work is to run the script's lines on those modules, with their parts at the places that the seed draws, one after another or
+/// with the calls beside the moves, or to predict its calls; or to list the one module that is shown. Right words of `gen` are done whatever the files are, and ask for none: the
 /// work is to run the lines of the built script on the built modules.
 pub fn law_right_commands_are_done()
+    ensures run { (files : List ℕ → List ℕ) (words : List (List ℕ)) (operand : List ℕ) (seed fuel slots frames : ℕ) (s : Script) (images : List Image) (steps : List ReadyStep)
+        → command_of words ≡ Some (Run operand seed fuel slots frames) → length (files operand) ≤ FILE_BYTES → script_of (files operand) ≡ Ok s
+        → AreLinked files seed s.workers [] s.loads images → ready_steps images s.steps ≡ Ok steps
+        → Gives files (command words) (operand ∷ map (λ l. l.file) s.loads)
+        (Ok (Beside slots frames (record { seed = seed; fuel = fuel; script = s; images = images; steps = steps }))) }
     ensures seq { (files : List ℕ → List ℕ) (words : List (List ℕ)) (operand : List ℕ) (seed fuel : ℕ) (s : Script) (images : List Image) (steps : List ReadyStep)
         → command_of words ≡ Some (Seq operand seed fuel) → length (files operand) ≤ FILE_BYTES → script_of (files operand) ≡ Ok s
         → AreLinked files seed s.workers [] s.loads images → ready_steps images s.steps ≡ Ok steps

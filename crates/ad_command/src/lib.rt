@@ -6,31 +6,36 @@ ghost use Rattle.std.specs.Process.{exit_status};
 ghost use Rattle.ad_base.specs.Outside.{Outside};
 ghost use Rattle.ad_command.specs.Chain.{Serves};
 ghost use Rattle.ad_command.specs.Command.{Work, command};
-ghost use Rattle.ad_command.specs.Ending.{IsFaultOf};
+ghost use Rattle.ad_command.specs.Served.{IsFaultOf};
 ghost use Rattle.ad_command.specs.Trouble.{status_of};
 ghost use Rattle.ad_command.specs.declared.trouble.Trouble.{Trouble};
 
+mod beside;
 mod laws;
 mod load;
+mod serve;
 #[cfg(test)]
 mod tests;
-mod top;
 mod trouble;
 
-use ad_base::{DiskFiles, OutSink};
+use ad_base::{DiskFiles, NoGate, OutSink};
 pub use laws::{
     law_first_refusal, law_one_answer, law_right_commands_are_done, law_some_answer,
     law_worked_chains,
 };
+pub use serve::{Ended, begins_with_run, top, top_run, top_still};
 use std::process::ExitCode;
 use std::rt::Env;
+use std::sync::Wait;
+use std::thread::Threads;
 use std::{env, io};
-pub use top::{Ended, top_still};
 pub use trouble::{Trouble, exit_status, unread_words};
 
 /// Serves the words of the process over the files of the system and standard output, and gives the status that the
 /// process ends with. A fault is told on standard error. What the words come to is said by `run_words`.
-pub fn run_process<R: Env + AllocGlobal + std::rt::Files + Print + Eprint>(rt: &R) -> ExitCode
+pub fn run_process<R: Env + AllocGlobal + std::rt::Files + Print + Eprint + Threads + Wait + Sync>(
+    rt: &R,
+) -> ExitCode
     ensures { (fault : Option Trouble) × (exit_status result ≡ status_of fault) }
 {
     let fault = match arguments(rt) {
@@ -44,9 +49,9 @@ pub fn run_process<R: Env + AllocGlobal + std::rt::Files + Print + Eprint>(rt: &
     ExitCode::from(exit_status(&fault))
 }
 
-/// Serves command words over the files of the system and standard output: what `top_still` does there. Nothing is told
-/// of what those hold.
-pub fn run_words<R: AllocGlobal + std::rt::Files + Print>(
+/// Serves command words over the files of the system and standard output: what `top` does there, with no one
+/// held up. Nothing is told of what those hold.
+pub fn run_words<R: AllocGlobal + std::rt::Files + Print + Threads + Wait + Sync>(
     rt: &R,
     words: &[String],
 ) -> Option<Trouble>
@@ -55,7 +60,7 @@ pub fn run_words<R: AllocGlobal + std::rt::Files + Print>(
 {
     let mut files = DiskFiles::new(rt);
     let mut out = OutSink::new(io::writer(rt));
-    top_still(rt, words, &mut files, &mut out).fault
+    top(rt, words, &mut files, &mut out, &NoGate).fault
 }
 
 /// The words after the program's name.

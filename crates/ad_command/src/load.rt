@@ -40,7 +40,7 @@ use std::alloc::Global;
 pub enum Origin<'a> {
     /// It is in the file of this name.
     File(&'a str),
-    /// It is built of so many lines.
+    /// It is built of so many calls and moves.
     Built(u64),
 }
 
@@ -81,7 +81,7 @@ pub fn script_from<F: Files>(
     }
 }
 
-/// The script of so many lines over the modules that are built.
+/// The script of so many calls and moves over the modules that are built.
 fn script_built(alloc: Global, number: u64) -> Result<Script, Trouble>
     requires some { 1 ≤ number }
     requires few { number ≤ MOST_GENERATED }

@@ -5,12 +5,14 @@ mod linked;
 mod objects;
 mod scripts;
 
-use crate::top::{Ended, top_still};
-use ad_base::{MemFile, MemFiles, MemSink, Name, Sequence};
+use crate::serve::{Ended, top};
+use ad_base::{MemFile, MemFiles, MemSink, Name, NoGate, Sequence};
 use objects::function;
 use std::alloc::Global;
 use std::process::Abort;
+use std::sync::Wait;
 use std::test::Fail;
+use std::thread::Threads;
 
 /// `jalr x0, 0(ra)`.
 const RETURN: u32 = 0x0000_8067;
@@ -163,13 +165,13 @@ fn plain_values(
     })
 }
 
-/// Serves a command. No other test calls `top_still`, whose contract is long.
-fn serve(rt: &impl AllocGlobal, given: &Given) -> Result<Served, Fail> {
+/// Serves a command. Nothing else here calls `top`, whose contract is long.
+fn serve(rt: &(impl AllocGlobal + Threads + Wait + Sync), given: &Given) -> Result<Served, Fail> {
     let alloc = rt.alloc();
     let words = word_list(alloc, given.words)?;
     let mut files = files(alloc, given)?;
     let mut out = sink(alloc, given)?;
-    let ended = top_still(rt, words.as_slice(), &mut files, &mut out);
+    let ended = top(rt, words.as_slice(), &mut files, &mut out, &NoGate);
     plain_values(alloc, &ended, &files, &out)
 }
 
@@ -321,7 +323,7 @@ fn predictions_that_are_refused(rt: HostRuntime) -> Result<(), Fail> {
 
 /// Asserts that the report of a module's lines begins so. The module's one export is `e`.
 fn expect_begin(
-    rt: &(impl Abort + AllocGlobal),
+    rt: &(impl Abort + AllocGlobal + Threads + Wait + Sync),
     words: &[u32],
     lines: &str,
     begin: &str,
@@ -410,7 +412,7 @@ fn repeated(alloc: Global, lines: &[u8], times: usize) -> Result<Vec<u8>, Fail> 
 
 /// Asserts that the report of a script of the adder has these lines, and ends so.
 fn expect_lines_and_end(
-    rt: &(impl Abort + AllocGlobal),
+    rt: &(impl Abort + AllocGlobal + Threads + Wait + Sync),
     script: &[u8],
     lines: &str,
     end: &str,
@@ -464,14 +466,19 @@ fn the_longest_script(rt: HostRuntime) -> Result<(), Fail> {
 #[test]
 fn words_of_no_grammar(rt: HostRuntime) -> Result<(), Fail> {
     let module = function(rt.alloc(), &SUM, b"sum")?;
-    let lists: [&[&str]; 18] = [
+    let lists: [&[&str]; 23] = [
         &[],
         &["seq"],
         &["predict"],
         &["show"],
         &["show", "-f"],
         &["predict", "--fuel"],
-        &["run", "s"],
+        &["run"],
+        &["run", "s", "t"],
+        &["run", "s", "--slots", "0"],
+        &["run", "s", "--slots=17"],
+        &["run", "--frames", "1", "s"],
+        &["run", "--frames=17", "s"],
         &["seq", "-s"],
         &["seq", "s", "f"],
         &["s", "seq"],

@@ -4,7 +4,9 @@ use super::objects::{Entry, Named, Part, function, object, text, word_bytes, zer
 use super::{Given, RETURN, SUM, expect_fault, expect_refused, predict, seq, serve};
 use ad_elf::{SHF_ALLOC, SHF_EXECINSTR, SHF_WRITE, SHN_ABS};
 use std::process::Abort;
+use std::sync::Wait;
 use std::test::Fail;
+use std::thread::Threads;
 
 /// Types of relocations (RISC-V ELF psABI, "Relocations").
 const NUMBER32: u32 = 1;
@@ -192,7 +194,7 @@ fn show<'a>(module: &'a [u8]) -> Given<'a> {
 
 /// Asserts what is listed of a module.
 fn expect_listing(
-    rt: &(impl Abort + AllocGlobal),
+    rt: &(impl Abort + AllocGlobal + Threads + Wait + Sync),
     module: &[u8],
     listing: &str,
 ) -> Result<(), Fail> {
@@ -276,7 +278,7 @@ fn listings(rt: HostRuntime) -> Result<(), Fail> {
 
 /// Asserts that a module is refused so by each command.
 fn expect_refused_module(
-    rt: &(impl Abort + AllocGlobal),
+    rt: &(impl Abort + AllocGlobal + Threads + Wait + Sync),
     module: &[u8],
     cause: &str,
 ) -> Result<(), Fail> {
@@ -371,7 +373,11 @@ fn pointers_that_are_refused(rt: HostRuntime) -> Result<(), Fail> {
 }
 
 /// Asserts that a module links, with so many pages of its movable part.
-fn expect_pages(rt: &(impl Abort + AllocGlobal), module: &[u8], pages: u64) -> Result<(), Fail> {
+fn expect_pages(
+    rt: &(impl Abort + AllocGlobal + Threads + Wait + Sync),
+    module: &[u8],
+    pages: u64,
+) -> Result<(), Fail> {
     let served = serve(rt, &show(module))?;
     expect_fault(rt, &served, 0, "");
     let begin = format!(in rt.alloc(); "movable pages {pages} ")?;
@@ -410,7 +416,10 @@ fn the_largest_parts(rt: HostRuntime) -> Result<(), Fail> {
 }
 
 /// A module whose text loads so many numbers from the fixed table: 0, 1 and so on.
-fn numbers(rt: &(impl Abort + AllocGlobal), count: u64) -> Result<Vec<u8>, Fail> {
+fn numbers(
+    rt: &(impl Abort + AllocGlobal + Threads + Wait + Sync),
+    count: u64,
+) -> Result<Vec<u8>, Fail> {
     let alloc = rt.alloc();
     assert!(rt; count <= 257);
     let mut names: Vec<Named> = Vec::new(alloc);

@@ -4,11 +4,13 @@ use super::linked::{COUNTER, KEEPER, OF_WORD, Source, made};
 use super::objects::function;
 use super::{Given, STACK_END, SUM, expect_fault, expect_refused, predict, seq, serve};
 use std::process::Abort;
+use std::sync::Wait;
 use std::test::Fail;
+use std::thread::Threads;
 
 /// Asserts that a command prints this, once it asked for so many files.
 fn expect_text(
-    rt: &(impl Abort + AllocGlobal),
+    rt: &(impl Abort + AllocGlobal + Threads + Wait + Sync),
     given: &Given,
     text: &str,
     asked: usize,

@@ -3,8 +3,12 @@ use Rattle.ad_generator.specs.Generated.{generated_script}
 use Rattle.ad_generator.specs.Modules.{modules}
 use Rattle.ad_words.specs.Laws.{IsInRange}
 use Rattle.ad_command.proofs.Built.{built-images, steps-ready}
-use Rattle.ad_command.proofs.Complete.{right-gen-is-done, right-predict-is-done, right-seq-is-done, right-show-is-done}
+use Rattle.ad_command.proofs.Complete.{right-gen-is-done, right-predict-is-done, right-run-is-done, right-seq-is-done, right-show-is-done}
 use Rattle.ad_command.proofs.laws.law_right_commands_are_done.Goals as goal
+
+pub returns-clause-run : goal.returns-clause-run
+returns-clause-run c = λ files words operand seed fuel slots frames s images steps said short script right ready.
+    right-run-is-done files words operand seed fuel s images steps short script right ready slots frames said
 
 pub returns-clause-seq : goal.returns-clause-seq
 returns-clause-seq c = λ files words operand seed fuel s images steps said short script right ready.

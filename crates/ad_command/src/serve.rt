@@ -1,33 +1,36 @@
 //! The command, from its words to what is written.
 
-ghost use Rattle.std.specs.Prelude.{◌≡◌, ◌≢◌, ◌⊎◌, ℕ, List, [], length, map, string_bytes, Some, None, Result, Ok, Err, IfOk, IfErr, MatchResult};
+ghost use Rattle.std.specs.Prelude.{◌≡◌, ◌≢◌, [], length, map, string_bytes, true, false, Some, None, Result, Ok, IfOk, IfErr};
 ghost use Rattle.ad_base.specs.Book.{contents_of};
-ghost use Rattle.ad_base.specs.Count.{Rose};
-ghost use Rattle.ad_command.specs.Chain.{AreTold, Gives, Serves};
-ghost use Rattle.ad_command.specs.Command.{Job, Predicted, Work, command, job_from, work_of};
-ghost use Rattle.ad_command.specs.Ending.{Answers, AskedLast, AsksFirstOf, IsDone, Leaves, LeavesDone, Writes, fault_of};
-ghost use Rattle.ad_command.specs.Private.Asked.{IsThere, module_from, run_text, script_from, source_of, work_on, work_run};
-ghost use Rattle.ad_lines.specs.declared.ready.ReadyStep.{ReadyStep};
+ghost use Rattle.ad_command.specs.Chain.{Serves};
+ghost use Rattle.ad_command.specs.Command.{Job, Predicted, Work, begins_with_run, command, job_from, work_of};
+ghost use Rattle.ad_command.specs.Ending.{IsDone, IsTextAlone};
+ghost use Rattle.ad_command.specs.Private.Asked.{IsJobMade, IsMade, IsThere, IsUnready, module_from, prepared_ending, run_text, script_from, source_of, work_on, work_run};
+ghost use Rattle.ad_command.specs.Served.{Leaves, Served, Writes, ending_of};
+ghost use Rattle.ad_command.specs.Trouble.{status_of};
 ghost use Rattle.ad_lines.specs.LineLaws.{run_of_seed};
 ghost use Rattle.ad_lines.specs.Opening.{opening_drawn, AreLoaded};
 ghost use Rattle.ad_lines.specs.Ready.{ready_steps};
 ghost use Rattle.ad_report.specs.Report.{AreMovesInOrder};
 ghost use Rattle.ad_script.specs.Range.{IsInRange};
-ghost use Rattle.ad_command.specs.Trouble.{status_of};
 ghost use Rattle.ad_words.specs.Words.{Show};
 
+use crate::beside::prepare_beside;
 use crate::load::{Loaded, Origin, load_images, script_from, shown_image};
 use crate::trouble::{Trouble, exit_status};
-use ad_base::{Book, Failed, Files, Image, Moved, OutOfMemory, Row, Sink, write_all};
+use ad_base::{Book, Failed, Files, Gate, Image, Moved, OutOfMemory, Row, Sink, write_all};
 use ad_lines::{Finished, LineRun, Missing, ReadyStep, ready_steps};
+use ad_maps::Closed;
 use ad_predict::predict;
 use ad_report::{listing, report, summary};
 use ad_script::Script;
 use ad_words::{Command, law_in_range, read_words};
 use std::alloc::Global;
+use std::sync::Wait;
+use std::thread::Threads;
 
 /// What came of a command.
-#[derive(Debug, Drop)]
+#[derive(Drop)]
 pub struct Ended {
     /// The status that the process ends with.
     pub status: u8,
@@ -39,66 +42,97 @@ pub struct Ended {
     pub moves: Vec<Moved>,
     /// All mappings, in order of number.
     pub ledger: Vec<Row>,
+    /// The mapping table of `run`, at the statuses 0 and 5.
+    pub closed: Option<Closed>,
 }
 
-/// Serves the command words. It always returns, and waits for nobody but the files that it reads and the sink that it
-/// writes to. The allocator is that of `rt`.
+/// Serves the command words, by the first of them: `run` by `top_run`, and every other command by `top_still`.
 ///
 /// The statuses are those of the faults: 1 where the words aren't of the grammar, 2 where a line of the script is refused,
 /// 3 where a module isn't linked, or where a line calls an export that its module hasn't, 4 where a file couldn't be read or has
 /// more than 1,048,576 bytes, 5 where the report couldn't be written, 6 where memory was wanting.
+pub fn top<R: AllocGlobal + Threads + Wait + Sync, F: Files, K: Sink, G: Gate + Sync>(
+    rt: &R,
+    words: &[String],
+    files: &mut F,
+    out: &mut K,
+    gate: &G,
+) -> Ended
+    ensures served { Served (F.outside files.old) (F.outside files.new) (K.output out.old) (K.output out.new) (map string_bytes words.now) result }
+
+    // The sink is used for nothing but the text of what was done.
+    ensures unused { (t : Trouble) → result.fault ≡ Some t → t ≢ Trouble.Write → out.new ≡ out.old }
+{
+    if begins_with_run(words) {
+        top_run(rt, words, files, out, gate)
+    } else {
+        top_still(rt, words, files, out)
+    }
+}
+
+/// Serves the words of `run`: the script's calls are made in threads beside its moves. It needn't return, since calls wait for
+/// their turns. The allocator is that of `rt`, and the statuses are those of `top`.
+pub fn top_run<R: AllocGlobal + Threads + Wait + Sync, F: Files, K: Sink, G: Gate + Sync>(
+    rt: &R,
+    words: &[String],
+    files: &mut F,
+    out: &mut K,
+    gate: &G,
+) -> Ended
+    requires { begins_with_run (map string_bytes words.now) ≡ true }
+    ensures served { Served (F.outside files.old) (F.outside files.new) (K.output out.old) (K.output out.new) (map string_bytes words.now) result }
+    ensures unused { (t : Trouble) → result.fault ≡ Some t → t ≢ Trouble.Write → out.new ≡ out.old }
+{
+    let prepared = prepare_beside(rt, rt.alloc(), words, files, gate);
+    answer(rt.alloc(), prepared, out)
+}
+
+/// Serves the words of every other command. It always returns, and waits for nobody but the files that it reads and the sink
+/// that it writes to. The allocator is that of `rt`, and the statuses are those of `top`.
 pub fn top_still<R: AllocGlobal, F: Files, K: Sink>(
     rt: &R,
     words: &[String],
     files: &mut F,
     out: &mut K,
 ) -> Ended
-    ensures status { result.status ≡ status_of result.fault }
-
-    // The chain of the command comes to some end, which says what is left.
-    ensures serves { (end : Result Work Trouble)
-        × Serves (F.outside files.old) (F.outside files.new) (command (map string_bytes words.now)) end
-        × Leaves (K.output out.old) (K.output out.new) result end }
-
-    // The sink is used for nothing but the report.
+    requires { begins_with_run (map string_bytes words.now) ≡ false }
+    ensures served { Served (F.outside files.old) (F.outside files.new) (K.output out.old) (K.output out.new) (map string_bytes words.now) result }
     ensures unused { (t : Trouble) → result.fault ≡ Some t → t ≢ Trouble.Write → out.new ≡ out.old }
-
-    // A failed read is told where the count of faults rose, and of the file that was asked for last. So is a file that is
-    // too large.
-    ensures read { (name : List ℕ) → result.fault ≡ Some (Trouble.Read name)
-        → Rose (F.outside files.old).faults (F.outside files.new).faults × AskedLast (F.outside files.old).asked (F.outside files.new).asked name }
-    ensures large { (name : List ℕ) → result.fault ≡ Some (Trouble.TooLarge name)
-        → AskedLast (F.outside files.old).asked (F.outside files.new).asked name }
-    ensures no_fault { ((name : List ℕ) → result.fault ≢ Some (Trouble.Read name)) → (F.outside files.new).faults ≡ (F.outside files.old).faults }
-
-    // Where the files that it asks for are told, the fault is that of the chain over their bytes, but for want of memory,
-    // for a failed read of one of them, and for a failed write of the report; and the names asked for are the chain's, or the first of them.
-    ensures told { (bytes : List ℕ → List ℕ) (names : List (List ℕ)) (due : Result Work Trouble)
-        → Gives bytes (command (map string_bytes words.now)) names due → AreTold (F.outside files.old).told bytes names
-        → Answers result.fault (fault_of due) names }
-    ensures asks { (bytes : List ℕ → List ℕ) (names : List (List ℕ)) (due : Result Work Trouble)
-        → Gives bytes (command (map string_bytes words.now)) names due → AreTold (F.outside files.old).told bytes names
-        → AsksFirstOf (F.outside files.old).asked (F.outside files.new).asked names }
-
-    // Where they are told and work was done, it is that of the chain over their bytes.
-    ensures work { (bytes : List ℕ → List ℕ) (names : List (List ℕ)) (due : Work)
-        → Gives bytes (command (map string_bytes words.now)) names (Ok due) → AreTold (F.outside files.old).told bytes names
-        → (result.fault ≡ None) ⊎ (result.fault ≡ Some Trouble.Write)
-        → LeavesDone (K.output out.old) (K.output out.new) result due }
 {
-    match prepare(rt.alloc(), words, files) {
-        Ok(prepared) => written(prepared, out),
-        Err(trouble) => refused(rt.alloc(), trouble),
+    let prepared = prepare(rt.alloc(), words, files);
+    answer(rt.alloc(), prepared, out)
+}
+
+/// Whether the first word is `run`.
+pub fn begins_with_run(words: &[String]) -> bool
+    ensures { result ≡ begins_with_run (map string_bytes words.now) }
+{
+    match words.first() {
+        Some(word) => word.as_str() == "run",
+        None => false,
     }
 }
 
 /// What was done, and the text that is written of it.
 #[derive(Drop)]
-struct Prepared {
-    books: Vec<Book>,
-    moves: Vec<Moved>,
-    ledger: Vec<Row>,
-    text: Vec<u8>,
+pub struct Prepared {
+    pub books: Vec<Book>,
+    pub moves: Vec<Moved>,
+    pub ledger: Vec<Row>,
+    pub closed: Option<Closed>,
+    pub text: Vec<u8>,
+}
+
+/// Writes the text of what was prepared, or tells why nothing was.
+fn answer<K: Sink>(alloc: Global, prepared: Result<Prepared, Trouble>, out: &mut K) -> Ended
+    ensures status { result.status ≡ status_of result.fault }
+    ensures leaves { (end : Result Work Trouble) → IsMade IsDone end prepared → Leaves (K.output out.old) (K.output out.new) result end }
+    ensures unused { (t : Trouble) → result.fault ≡ Some t → t ≢ Trouble.Write → out.new ≡ out.old }
+{
+    match prepared {
+        Ok(prepared) => written(prepared, out),
+        Err(trouble) => refused(alloc, trouble),
+    }
 }
 
 /// What came of a command that did nothing.
@@ -108,6 +142,7 @@ fn refused(alloc: Global, trouble: Trouble) -> Ended
     ensures books { result.books.items ≡ [] }
     ensures moves { result.moves.items ≡ [] }
     ensures ledger { result.ledger.items ≡ [] }
+    ensures no_table { result.closed ≡ None }
 {
     Ended {
         status: trouble.status(),
@@ -115,15 +150,14 @@ fn refused(alloc: Global, trouble: Trouble) -> Ended
         books: Vec::new(alloc),
         moves: Vec::new(alloc),
         ledger: Vec::new(alloc),
+        closed: None,
     }
 }
 
 /// Writes the text of what was done.
 fn written<K: Sink>(prepared: Prepared, out: &mut K) -> Ended
     ensures status { result.status ≡ status_of result.fault }
-    ensures books { result.books.items ≡ prepared.books.items }
-    ensures moves { result.moves.items ≡ prepared.moves.items }
-    ensures ledger { result.ledger.items ≡ prepared.ledger.items }
+    ensures ending { ending_of result prepared.text.items ≡ prepared_ending prepared }
     ensures writes { Writes (K.output out.old) (K.output out.new) result.fault prepared.text.items }
 {
     let fault = match write_all(out, &prepared.text) {
@@ -136,12 +170,13 @@ fn written<K: Sink>(prepared: Prepared, out: &mut K) -> Ended
         books: prepared.books,
         moves: prepared.moves,
         ledger: prepared.ledger,
+        closed: prepared.closed,
     }
 }
 
 /// What is done with a job.
 #[derive(Clone, Copy)]
-enum Purpose {
+pub enum Purpose {
     /// Its lines are run, and the run is reported.
     Run,
     /// Its calls are predicted.
@@ -152,14 +187,15 @@ enum Purpose {
 
 /// Serves the chain of the command, does its work, and makes the text.
 fn prepare<F: Files>(alloc: Global, words: &[String], files: &mut F) -> Result<Prepared, Trouble>
-    ensures { (end : Result Work Trouble) × Serves (F.outside files.old) (F.outside files.new) (command (map string_bytes words.now)) end
-        × MatchResult result (λ p. (work : Work) × (end ≡ Ok work) × IsDone work (record { books = map contents_of p.books.items; moves = p.moves.items; rows = p.ledger.items; text = p.text.items })) (λ t. end ≡ Err t) }
+    requires { begins_with_run (map string_bytes words.now) ≡ false }
+    ensures { (end : Result Work Trouble) × Serves (F.outside files.old) (F.outside files.new) (command (map string_bytes words.now)) end × IsMade IsDone end result }
 {
     law_in_range();
     let Some(command) = read_words(words) else {
         return Err(Trouble::Usage);
     };
     match command {
+        Command::Run { .. } => unreachable!(),
         Command::Seq { script, seed, fuel } => {
             let origin = Origin::File(script);
             serve_job(alloc, files, origin, seed, fuel, Purpose::Run)
@@ -187,7 +223,7 @@ fn serve_job<F: Files>(
 ) -> Result<Prepared, Trouble>
     requires { IsThere origin }
     ensures { (end : Result Job Trouble) × Serves (F.outside files.old) (F.outside files.new) (job_from (script_from origin.entry) (module_from (source_of origin.entry)) seed fuel) end
-        × MatchResult result (λ p. (job : Job) × (end ≡ Ok job) × IsDone (work_on purpose job) (record { books = map contents_of p.books.items; moves = p.moves.items; rows = p.ledger.items; text = p.text.items })) (λ t. end ≡ Err t) }
+        × IsMade (λ job. IsDone (work_on purpose job)) end result }
 {
     let script = script_from(alloc, files, origin)?;
     let loaded = load_images(alloc, files, origin.modules(), &script, seed)?;
@@ -206,10 +242,8 @@ fn do_job(
     requires drawn { loaded.placer ≡ opening_drawn loaded.placer.seed script.now.workers loaded.images.items }
     requires loaded { AreLoaded loaded.placer.seed script.now.workers loaded.images.items }
     requires each { length script.now.loads ≡ length loaded.images.items }
-    ensures done { IfOk result (λ p. (steps : List ReadyStep) × (ready_steps loaded.images.items script.now.steps ≡ Ok steps)
-        × IsDone (work_on purpose (record { seed = loaded.placer.seed; fuel = fuel; script = script.now; images = loaded.images.items; steps = steps }))
-        (record { books = map contents_of p.books.items; moves = p.moves.items; rows = p.ledger.items; text = p.text.items })) }
-    ensures fault { IfErr result (λ t. ((line : ℕ) × (ready_steps loaded.images.items script.now.steps ≡ Err line) × (t ≡ Trouble.NoExport line)) ⊎ (t ≡ Trouble.Memory)) }
+    ensures done { IfOk result (IsJobMade (work_on purpose) loaded.placer.seed fuel script.now loaded.images.items) }
+    ensures fault { IfErr result (IsUnready script.now loaded.images.items) }
 {
     match purpose {
         Purpose::Run => run_job(alloc, script, loaded, fuel, None),
@@ -221,7 +255,7 @@ fn do_job(
 /// Serves the chain of a file that is shown, and makes the listing.
 fn shown<F: Files>(alloc: Global, files: &mut F, file: &str) -> Result<Prepared, Trouble>
     ensures { (end : Result Work Trouble) × Serves (F.outside files.old) (F.outside files.new) (work_of (Show file.now)) end
-        × MatchResult result (λ p. (work : Work) × (end ≡ Ok work) × IsDone work (record { books = map contents_of p.books.items; moves = p.moves.items; rows = p.ledger.items; text = p.text.items })) (λ t. end ≡ Err t) }
+        × IsMade IsDone end result }
 {
     let image = shown_image(alloc, files, file)?;
     let text = listing(alloc, &image)?;
@@ -230,15 +264,13 @@ fn shown<F: Files>(alloc: Global, files: &mut F, file: &str) -> Result<Prepared,
 
 /// A text, where nothing was run.
 fn text_alone(alloc: Global, text: Vec<u8>) -> Prepared
-    ensures books { result.books.items ≡ [] }
-    ensures moves { result.moves.items ≡ [] }
-    ensures ledger { result.ledger.items ≡ [] }
-    ensures text { result.text.items ≡ text.items }
+    ensures { IsTextAlone text.items (prepared_ending result) }
 {
     Prepared {
         books: Vec::new(alloc),
         moves: Vec::new(alloc),
         ledger: Vec::new(alloc),
+        closed: None,
         text,
     }
 }
@@ -253,10 +285,8 @@ fn predict_job(
     requires range { IsInRange script.now }
     requires loaded { AreLoaded loaded.now.placer.seed script.now.workers loaded.now.images.items }
     requires each { length script.now.loads ≡ length loaded.now.images.items }
-    ensures done { IfOk result (λ p. (steps : List ReadyStep) × (ready_steps loaded.now.images.items script.now.steps ≡ Ok steps)
-        × IsDone (Predicted (record { seed = loaded.now.placer.seed; fuel = fuel; script = script.now; images = loaded.now.images.items; steps = steps }))
-        (record { books = map contents_of p.books.items; moves = p.moves.items; rows = p.ledger.items; text = p.text.items })) }
-    ensures fault { IfErr result (λ t. ((line : ℕ) × (ready_steps loaded.now.images.items script.now.steps ≡ Err line) × (t ≡ Trouble.NoExport line)) ⊎ (t ≡ Trouble.Memory)) }
+    ensures done { IfOk result (IsJobMade Predicted loaded.now.placer.seed fuel script.now loaded.now.images.items) }
+    ensures fault { IfErr result (IsUnready script.now loaded.now.images.items) }
 {
     let steps = ready(alloc, &loaded.images, script)?;
     let text = predict(alloc, script, &loaded.images, &steps, fuel)?;
@@ -276,10 +306,8 @@ fn run_job(
     requires drawn { loaded.placer ≡ opening_drawn loaded.placer.seed script.now.workers loaded.images.items }
     requires loaded { AreLoaded loaded.placer.seed script.now.workers loaded.images.items }
     requires each { length script.now.loads ≡ length loaded.images.items }
-    ensures done { IfOk result (λ p. (steps : List ReadyStep) × (ready_steps loaded.images.items script.now.steps ≡ Ok steps)
-        × IsDone (work_run number (record { seed = loaded.placer.seed; fuel = fuel; script = script.now; images = loaded.images.items; steps = steps }))
-        (record { books = map contents_of p.books.items; moves = p.moves.items; rows = p.ledger.items; text = p.text.items })) }
-    ensures fault { IfErr result (λ t. ((line : ℕ) × (ready_steps loaded.images.items script.now.steps ≡ Err line) × (t ≡ Trouble.NoExport line)) ⊎ (t ≡ Trouble.Memory)) }
+    ensures done { IfOk result (IsJobMade (work_run number) loaded.placer.seed fuel script.now loaded.images.items) }
+    ensures fault { IfErr result (IsUnready script.now loaded.images.items) }
 {
     let steps = ready(alloc, &loaded.images, script)?;
     let finished = run_lines(alloc, script, loaded, &steps, fuel)?;
@@ -288,6 +316,7 @@ fn run_job(
         books: finished.books,
         moves: finished.moves,
         ledger: finished.rows,
+        closed: None,
         text,
     })
 }
@@ -312,9 +341,9 @@ fn run_text(
 }
 
 /// The steps of a script, each ready to run on these modules.
-fn ready(alloc: Global, images: &[Image], script: &Script) -> Result<Vec<ReadyStep>, Trouble>
+pub fn ready(alloc: Global, images: &[Image], script: &Script) -> Result<Vec<ReadyStep>, Trouble>
     ensures ready { IfOk result (λ steps. ready_steps images.now script.now.steps ≡ Ok steps.items) }
-    ensures fault { IfErr result (λ t. ((line : ℕ) × (ready_steps images.now script.now.steps ≡ Err line) × (t ≡ Trouble.NoExport line)) ⊎ (t ≡ Trouble.Memory)) }
+    ensures fault { IfErr result (IsUnready script.now images.now) }
 {
     match ready_steps(alloc, images, script.steps.as_slice()) {
         Ok(steps) => Ok(steps),

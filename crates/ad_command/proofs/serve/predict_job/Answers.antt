@@ -1,10 +1,11 @@
-use Rattle.std.proofs.Common.{◌∙◌, ap, map, sym, subst, arith}
-use Rattle.ad_base.specs.Book.{contents_of}
+use Rattle.std.proofs.Common.{◌∙◌, ap, sym, subst, arith}
 use Rattle.ad_predict.specs.Prediction.{prediction}
 use Rattle.std.specs.List.{All}
 use Rattle.ad_lines.specs.Ready.{IsRunnable, ready_steps}
+use Rattle.ad_command.specs.Ending.{IsTextAlone}
+use Rattle.ad_command.specs.Private.Asked.{prepared_ending}
 use Rattle.ad_command.proofs.Jobs.{are-steps}
-use Rattle.ad_command.proofs.top.predict_job.Goals as goal
+use Rattle.ad_command.proofs.serve.predict_job.Goals as goal
 
 pub predict-requires-clause-runnable : goal.predict-requires-clause-runnable
 predict-requires-clause-runnable c =
@@ -20,12 +21,11 @@ returns-clause-done c =
     let images = c.args.loaded.now.images.items in
     let steps = c.in_ok-steps.steps.items in
     let ready = ap (λ is. ready_steps is s.steps) (sym c.deref.ensures.value) ∙ c.in_ok-steps.ensures.ready in
-    let said = c.text_alone.ensures in
-    let text = said.text ∙ c.in_ok-text.ensures ∙ (λ k. prediction s (c.deref-2.ensures.value k) c.args.fuel (c.deref-3.ensures.value k)) in (
+    let text = c.in_ok-text.ensures ∙ (λ k. prediction s (c.deref-2.ensures.value k) c.args.fuel (c.deref-3.ensures.value k)) in (
       steps,
       ready,
       (
         record { loaded = c.requires.loaded; steps = are-steps images s steps c.requires.range (omega (arith, c.requires.each)) ready },
-        record { no_book = ap (map contents_of) said.books; no_move = said.moves; no_row = said.ledger; text_is = text },
+        subst (λ t. IsTextAlone t (prepared_ending c.text_alone.result)) text c.text_alone.ensures,
       ),
     )

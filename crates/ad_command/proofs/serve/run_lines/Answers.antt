@@ -6,7 +6,7 @@ use Rattle.ad_lines.specs.Ready.{IsRunnable}
 use Rattle.ad_lines.specs.Room.{images_of}
 use Rattle.ad_lines.proofs.Opened.{opening-there}
 use Rattle.ad_command.proofs.Jobs.{are-steps, few-steps}
-use Rattle.ad_command.proofs.top.run_lines.Goals as goal
+use Rattle.ad_command.proofs.serve.run_lines.Goals as goal
 
 pub open-requires-clause-lines : goal.open-requires-clause-lines
 open-requires-clause-lines c = few-steps c.args.loaded.images.items c.args.script.now c.args.steps.now c.requires.range c.requires.ready

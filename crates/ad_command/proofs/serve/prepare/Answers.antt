@@ -1,16 +1,23 @@
 use Rattle.std.proofs.Common.{map, string_bytes, IfSome, Some, Err, refl, ap, subst, sym, ◌∙◌}
-use Rattle.ad_base.specs.Book.{contents_of}
 use Rattle.ad_command.specs.Command.{Generated, Lines, Predicted, job_built, job_in}
+use Rattle.ad_command.specs.Private.Asked.{prepared_ending}
 use Rattle.ad_words.specs.Private.Seen.{command_seen}
 use Rattle.ad_words.specs.Laws.{IsInRange}
-use Rattle.ad_words.specs.Words.{Gen, Predict, Seq, Show}
-use Rattle.ad_command.specs.declared.top.Prepared.{Prepared}
+use Rattle.ad_words.specs.Words.{Gen, Predict, Run, Seq, Show}
 use Rattle.ad_command.specs.declared.trouble.Trouble.TheVariants.{Usage}
 use Rattle.ad_command.proofs.Commands.{command-none, command-some, work-ran}
-use Rattle.ad_command.proofs.top.prepare.Goals as goal
+use Rattle.ad_command.proofs.Tables.{run-by-word}
+use Rattle.ad_command.proofs.serve.prepare.Goals as goal
 
 pub returns-in_default : goal.returns-in_default
 returns-in_default g c = (Err Usage, command-none (g.F.Files.outside c.args.files.now) (map string_bytes c.args.words.now) (sym c.in_default.ensures), refl)
+
+pub unreachable-requires : goal.unreachable-requires
+unreachable-requires g c =
+    let k = c.in-Run in
+    let words = map string_bytes c.args.words.now in
+    let first = run-by-word words (Run k.script.now k.seed k.fuel k.slots k.frames) (ap (λ x. Some (command_seen x)) (sym k.is) ∙ c.in-Some.ensures) in
+    absurd (let e = first ∙ c.requires in cc)
 
 pub returns-in-Seq : goal.returns-in-Seq
 returns-in-Seq g c =
@@ -18,7 +25,7 @@ returns-in-Seq g c =
     let old = g.F.Files.outside c.args.files.now in
     let new = g.F.Files.outside c.serve_job.new.files in
     let ran = c.serve_job.ensures in
-    let last = work-ran Lines (λ (p : Prepared). record { books = map contents_of p.books.items; moves = p.moves.items; rows = p.ledger.items; text = p.text.items }) old new (job_in k.script.now k.seed k.fuel) c.serve_job.result ran.0 ran.1 ran.2 in
+    let last = work-ran Lines prepared_ending old new (job_in k.script.now k.seed k.fuel) c.serve_job.result ran.0 ran.1 ran.2 in
     (last.0, command-some old new (map string_bytes c.args.words.now) (Seq k.script.now k.seed k.fuel) last.0 (ap (λ x. Some (command_seen x)) (sym k.is) ∙ c.in-Some.ensures) last.1, last.2)
 
 pub returns-in-Predict : goal.returns-in-Predict
@@ -27,7 +34,7 @@ returns-in-Predict g c =
     let old = g.F.Files.outside c.args.files.now in
     let new = g.F.Files.outside c.serve_job-in-Predict.new.files in
     let ran = c.serve_job-in-Predict.ensures in
-    let last = work-ran Predicted (λ (p : Prepared). record { books = map contents_of p.books.items; moves = p.moves.items; rows = p.ledger.items; text = p.text.items }) old new (job_in k.script.now k.seed k.fuel) c.serve_job-in-Predict.result ran.0 ran.1 ran.2 in
+    let last = work-ran Predicted prepared_ending old new (job_in k.script.now k.seed k.fuel) c.serve_job-in-Predict.result ran.0 ran.1 ran.2 in
     (last.0, command-some old new (map string_bytes c.args.words.now) (Predict k.script.now k.seed k.fuel) last.0 (ap (λ x. Some (command_seen x)) (sym k.is) ∙ c.in-Some.ensures) last.1, last.2)
 
 pub returns-in-Show : goal.returns-in-Show
@@ -48,5 +55,5 @@ returns-in-Gen g c =
     let old = g.F.Files.outside c.args.files.now in
     let new = g.F.Files.outside c.serve_job-in-Gen.new.files in
     let ran = c.serve_job-in-Gen.ensures in
-    let last = work-ran (Generated k.number) (λ (p : Prepared). record { books = map contents_of p.books.items; moves = p.moves.items; rows = p.ledger.items; text = p.text.items }) old new (job_built k.number k.seed k.fuel) c.serve_job-in-Gen.result ran.0 ran.1 ran.2 in
+    let last = work-ran (Generated k.number) prepared_ending old new (job_built k.number k.seed k.fuel) c.serve_job-in-Gen.result ran.0 ran.1 ran.2 in
     (last.0, command-some old new (map string_bytes c.args.words.now) (Gen k.number k.seed k.fuel) last.0 (ap (λ x. Some (command_seen x)) (sym k.is) ∙ c.in-Some.ensures) last.1, last.2)

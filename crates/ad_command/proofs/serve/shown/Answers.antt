@@ -1,11 +1,12 @@
-use Rattle.std.proofs.Common.{Err, Ok, map, refl, ap, ◌∙◌}
-use Rattle.ad_base.specs.Book.{contents_of}
+use Rattle.std.proofs.Common.{Err, Ok, refl, subst}
 use Rattle.std.proofs.lemmas.Result.{err_from_is_err_and}
 use Rattle.ad_command.specs.declared.trouble.Trouble.TheVariants.{Memory}
 use Rattle.ad_command.specs.Command.{Shown}
+use Rattle.ad_command.specs.Ending.{IsTextAlone}
+use Rattle.ad_command.specs.Private.Asked.{prepared_ending}
 use Rattle.ad_command.proofs.Commands.{show-done, show-unlinked, show-wanting}
 use Rattle.ad_command.proofs.Loads.{handed_on}
-use Rattle.ad_command.proofs.top.shown.Goals as goal
+use Rattle.ad_command.proofs.serve.shown.Goals as goal
 
 pub returns-in_err-image : goal.returns-in_err-image
 returns-in_err-image g c =
@@ -20,9 +21,8 @@ returns-in_err-text g c =
 
 pub returns : goal.returns
 returns g c =
-    let i = c.in_ok-image.image in
-    let said = c.text_alone.ensures in (
+    let i = c.in_ok-image.image in (
       Ok (Shown i),
       show-done (g.F.Files.outside c.args.files.now) (g.F.Files.outside c.shown_image.new.files) c.args.file.now i c.in_ok-image.ensures.serves,
-      (Shown i, refl, (c.in_ok-image.ensures.whole, record { no_book = ap (map contents_of) said.books; no_move = said.moves; no_row = said.ledger; text_is = said.text ∙ c.in_ok-text.ensures })),
+      (Shown i, refl, (c.in_ok-image.ensures.whole, subst (λ text. IsTextAlone text (prepared_ending c.text_alone.result)) c.in_ok-text.ensures c.text_alone.ensures)),
     )

@@ -1,11 +1,9 @@
-use Rattle.std.proofs.Common.{Err, map, refl}
+use Rattle.std.proofs.Common.{Err, refl}
 use Rattle.std.proofs.lemmas.Result.{err_from_is_err_and}
-use Rattle.ad_base.specs.Book.{contents_of}
-use Rattle.ad_command.specs.declared.top.Prepared.{Prepared}
 use Rattle.ad_command.specs.Ending.{IsDone}
-use Rattle.ad_command.specs.Private.Asked.{module_from, script_from, source_of, work_on}
+use Rattle.ad_command.specs.Private.Asked.{module_from, prepared_ending, script_from, source_of, work_on}
 use Rattle.ad_command.proofs.Commands.{job-ran, job-unloaded, job-unread}
-use Rattle.ad_command.proofs.top.serve_job.Goals as goal
+use Rattle.ad_command.proofs.serve.serve_job.Goals as goal
 
 pub returns-in_err-script : goal.returns-in_err-script
 returns-in_err-script g c =
@@ -27,4 +25,4 @@ pub returns : goal.returns
 returns g c =
     let loaded = c.in_ok-loaded.loaded in
     job-ran (script_from c.args.origin) (module_from (source_of c.args.origin)) c.args.seed c.args.fuel (g.F.Files.outside c.args.files.now) (g.F.Files.outside c.script_from.new.files) c.in_ok-script.script c.in_ok-script.ensures.serves (g.F.Files.outside c.load_images.new.files) loaded.images.items (rw c.modules.ensures at c.in_ok-loaded.ensures.serves)
-    (λ j. IsDone (work_on c.args.purpose j)) (λ (p : Prepared). record { books = map contents_of p.books.items; moves = p.moves.items; rows = p.ledger.items; text = p.text.items }) c.do_job.result loaded.placer.seed c.in_ok-loaded.ensures.seed c.do_job.ensures.done c.do_job.ensures.fault
+    (λ j. IsDone (work_on c.args.purpose j)) prepared_ending c.do_job.result loaded.placer.seed c.in_ok-loaded.ensures.seed c.do_job.ensures.done c.do_job.ensures.fault
