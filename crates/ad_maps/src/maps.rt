@@ -280,19 +280,16 @@ pub(crate) fn place_of(word: u64) -> Place
     Place::unpack(word).unwrap()
 }
 
-/// The page of an address, in the place of a mapping whose word is in the directory at its own region, and at no
-/// other region has any word its number.
+/// The page of an address, in the place of a mapping whose word is in the directory at its own region.
 fn page_in(word: u64, place: &Place, va: u64) -> Option<u64>
     requires place { IsPlace place.now }
     requires own { va / REGION_BYTES ≡ place.now.region → word ≡ packed place.now }
-    requires other { va / REGION_BYTES ≢ place.now.region → (q : Place) → IsPlace q → word ≡ packed q → q.mapping ≢ place.now.mapping }
     ensures inside { IfSome result (λ page. IsInside place.now va) }
     ensures page { IfSome result (λ page. page ≡ page_number place.now va) }
     ensures none { IfNone result (IsInside place.now va → ⊥) }
 {
-    let seen = Place::unpack(word)?;
-    if seen.mapping != place.mapping {
+    if word != place.pack() {
         return None;
     }
-    seen.page_of(va)
+    place.page_of(va)
 }
