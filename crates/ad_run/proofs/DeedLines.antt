@@ -8,6 +8,7 @@ use Rattle.ad_maps.specs.declared.view.Made.{Made}
 use Rattle.ad_maps.specs.Ledger.{all_made, line_in, maps_in, opened_from}
 use Rattle.ad_maps.specs.Seen.{looks_from}
 use Rattle.ad_maps.specs.Steps.{made}
+use Rattle.ad_maps.proofs.Elements.{maps-append}
 use Rattle.ad_mover.specs.Moves.{Outcome, NoNumber, AllOwned, Placed, deeds_of, retired_by}
 
 -- ---- lines
@@ -107,14 +108,6 @@ line-ended deeds waiting ns n =
     ∙ ap (λ (ds : List Deed). line_in ds n) (append-nil (deeds ++ waiting))
 
 -- ---- mappings
-
-pub maps-append : (xs ys : List Deed) → maps_in (xs ++ ys) ≡ maps_in xs ++ maps_in ys
-maps-append [] ys = refl
-maps-append (deed.Look f o ∷ xs) ys = maps-append xs ys
-maps-append (deed.Map m p ∷ xs) ys = ap (λ (gs : List Made). made m p ∷ gs) (maps-append xs ys)
-maps-append (deed.Switch m p ∷ xs) ys = maps-append xs ys
-maps-append (deed.Retire n line ∷ xs) ys = maps-append xs ys
-maps-append (deed.Unmap n ∷ xs) ys = maps-append xs ys
 
 no-looks : (f : ℕ) (os : List ℕ) → maps_in (looks_from f os) ≡ []
 no-looks f [] = refl

@@ -17,10 +17,11 @@ use Rattle.ad_lines.specs.Opening.{AreLoaded, places_of_kind}
 use Rattle.ad_lines.specs.Sound.{Lines}
 use Rattle.ad_maps.specs.declared.view.Deed.{Deed}
 use Rattle.ad_maps.specs.Ledger.{all_made, maps_in, opened_from}
+use Rattle.ad_maps.proofs.Elements.{maps-append}
 use Rattle.ad_mover.specs.Moves.{AllOwned, MayCome, Moving, NoNumber, Outcome, Placed, end_of, given_by, retired_by, with_outcome, with_stack}
 use Rattle.ad_place.specs.Choice.{next_place}
 use Rattle.ad_run.specs.Opened.{drawn_mappings, new_moving, opening_in_frames, shape_for}
-use Rattle.ad_run.proofs.DeedLines.{made-after, made-ended, made_by, maps-append, no-retired}
+use Rattle.ad_run.proofs.DeedLines.{made-after, made-ended, made_by, no-retired}
 use Rattle.ad_run.proofs.Framed.{code_made, fixed_mapping, of_mapping_kind, opening-codes, opening-fixed, opening-stacks}
 use Rattle.ad_run.proofs.KeptRows.{mappings-push, mappings_of, with_given}
 use Rattle.ad_run.proofs.MoverSteps.{IsKept, with_end}

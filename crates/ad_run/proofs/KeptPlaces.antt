@@ -33,13 +33,14 @@ use Rattle.ad_maps.specs.declared.words.TheConstants.{MODULE_FRAMES}
 use Rattle.ad_maps.specs.Ledger.{all_made, maps_in}
 use Rattle.ad_maps.specs.MapPlace.{opening_of}
 use Rattle.ad_maps.specs.Steps.{made}
+use Rattle.ad_maps.proofs.Elements.{maps-append}
 use Rattle.ad_mover.specs.Moves.{AllOwned, MayCome, Moving, NoNumber, Outcome, Placed, deeds_of, retired_by, with_outcome, with_stack}
 use Rattle.ad_place.specs.Choice.{Drawn, drawn_from, next_place, with_next}
 use Rattle.ad_place.specs.ChoiceLaws.{IsPlaceFor}
 use Rattle.ad_place.proofs.Places.{next_place_fresh, next_place_is}
 use Rattle.ad_place.proofs.Requests.{drawn_from-append}
 use Rattle.ad_run.specs.Opened.{drawn_mappings, new_moving, opening_in_frames, shape_for}
-use Rattle.ad_run.proofs.DeedLines.{made-after, made-ended, made_by, maps-append, no-retired}
+use Rattle.ad_run.proofs.DeedLines.{made-after, made-ended, made_by, no-retired}
 use Rattle.ad_run.proofs.Framed.{IsInFrames, module-pages, opening-each, opening-frames, opening-places}
 use Rattle.ad_run.proofs.KeptMappings.{lane_places}
 use Rattle.ad_run.proofs.KeptRows.{mappings-push, mappings_of, with_given}
