@@ -1,4 +1,5 @@
 pub mod AllRows
+pub mod Asked
 pub mod Books
 pub mod Busy
 pub mod Clear

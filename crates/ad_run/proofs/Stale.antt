@@ -60,18 +60,15 @@ module _ (slots frames : ℕ) (l : Lines) (script : List Step) (o : Outcome) (cl
       let q = place-of-row slots frames l script ran.last mover-ran x (in-told x d) in
       ap (λ (y : Row). y.place) (one-row o.rows own-regions r x c d (region-of r.place at p inside ∙ sym (region-of x.place at q within)))
 
-  module _ (number : ℕ) (i : Image) (b : Contents) (loaded : slice_get l.images number ≡ Some i) (stored : slice_get o.books number ≡ Some b) (e : Entry) (stands : Contains b.entries e)
-      (r : Row) (listed : Contains o.rows r) (other : IsOtherPlace i e r.place) (at : ℕ) (inside : IsInside r.place at) where
+  module _ (number : ℕ) (i : Image) (b : Contents) (loaded : slice_get l.images number ≡ Some i) (stored : slice_get o.books number ≡ Some b) (e : Entry) (stands : Contains b.entries e) where
     under-row : (u : Row) × IsRowOf o.rows Code number u × (u.place ≡ e.under)
     under-row = subst (λ (x : Option Contents). IfSome x (λ (c : Contents). (f : Entry) → Contains c.entries f → (u : Row) × IsRowOf o.rows Code number u × (u.place ≡ f.under))) stored (ran.on_rows.under number) e stands
 
     stack-row : (u : Row) × IsRowOf o.rows Stack e.worker u × (u.place ≡ e.stack)
     stack-row = subst (λ (x : Option Contents). IfSome x (λ (c : Contents). (f : Entry) → Contains c.entries f → (u : Row) × IsRowOf o.rows Stack f.worker u × (u.place ≡ f.stack))) stored (ran.on_rows.stacks number) e stands
 
-    off : (x : Row) (p : Place) → Contains o.rows x → x.place ≡ p → r.place ≢ p → IsInside p at → ⊥
-    off x p c is differ within = differ (one-place r x at listed c inside (subst (λ q. IsInside q at) (sym is) within) ∙ is)
-
-    part : IsPartOf i e.under
+    -- the mapping that a call runs on is a place for the movable part of its module
+    pub part : IsPartOf i e.under
     part =
         let u = under-row in
         subst (IsPartOf i) u.2 (part-of-row slots frames l script ran.last mover-ran u.0 i (in-told u.0 u.1.listed) u.1.is_kind (ap (slice_get l.images) u.1.is_who ∙ loaded))
@@ -79,25 +76,29 @@ module _ (slots frames : ℕ) (l : Lines) (script : List Step) (o : Outcome) (cl
     on_stack : IsStackPlace e.stack
     on_stack = let u = stack-row in subst IsStackPlace u.2 (stack-of-row slots frames l script ran.last mover-ran u.0 (in-told u.0 u.1.listed) u.1.is_kind)
 
-    nothing : InEachMemory i e.under e.stack (λ memory. holding memory at ≡ None)
-    nothing bytes fixed writable full long =
-        let u = under-row in
-        let s = stack-row in
-        let fixed_there = subst (λ rows. Contains rows (fixed_row (number, i))) (sym rows-are) (fixed-row slots frames l script ran.last mover-ran number i loaded) in
-        nothing-outside i e.under e.stack at bytes fixed writable (all-read IsWhole l.images number i to_run.loaded.whole loaded) full long part.size on_stack.size
-        (off s.0 e.stack s.1.listed s.2 other.not_stack) (off (fixed_row (number, i)) i.fixed fixed_there refl other.not_fixed) (off u.0 e.under u.1.listed u.2 other.not_under)
+    module _ (r : Row) (listed : Contains o.rows r) (other : IsOtherPlace i e r.place) (at : ℕ) (inside : IsInside r.place at) where
+      off : (x : Row) (p : Place) → Contains o.rows x → x.place ≡ p → r.place ≢ p → IsInside p at → ⊥
+      off x p c is differ within = differ (one-place r x at listed c inside (subst (λ q. IsInside q at) (sym is) within) ∙ is)
 
-    high : 2 * REGION_BYTES < at
-    high =
-        let is = place-of-row slots frames l script ran.last mover-ran r (in-told r listed) in
-        let from : base_of r.place ≤ at = inside.from in
-        omega (arith, is.region_from, is.page_before, from)
+      nothing : InEachMemory i e.under e.stack (λ memory. holding memory at ≡ None)
+      nothing bytes fixed writable full long =
+          let u = under-row in
+          let s = stack-row in
+          let fixed_there = subst (λ rows. Contains rows (fixed_row (number, i))) (sym rows-are) (fixed-row slots frames l script ran.last mover-ran number i loaded) in
+          nothing-outside i e.under e.stack at bytes fixed writable (all-read IsWhole l.images number i to_run.loaded.whole loaded) full long part.size on_stack.size
+          (off s.0 e.stack s.1.listed s.2 other.not_stack) (off (fixed_row (number, i)) i.fixed fixed_there refl other.not_fixed) (off u.0 e.under u.1.listed u.2 other.not_under)
 
-    finds-nothing : FindsNothing i e at
-    finds-nothing = record {
-      nothing = nothing;
-      fault = λ bytes fixed writable full long. fault-at-steps at (segments_of i e.under e.stack bytes fixed writable) (nothing bytes fixed writable full long) high;
-    }
+      high : 2 * REGION_BYTES < at
+      high =
+          let is = place-of-row slots frames l script ran.last mover-ran r (in-told r listed) in
+          let from : base_of r.place ≤ at = inside.from in
+          omega (arith, is.region_from, is.page_before, from)
+
+      finds-nothing : FindsNothing i e at
+      finds-nothing = record {
+        nothing = nothing;
+        fault = λ bytes fixed writable full long. fault-at-steps at (segments_of i e.under e.stack bytes fixed writable) (nothing bytes fixed writable full long) high;
+      }
 
   pub nothing-elsewhere : FindNothingElsewhere l o
   nothing-elsewhere number i b loaded stored e stands r listed other at inside = finds-nothing number i b loaded stored e stands r listed other at inside
