@@ -18,7 +18,8 @@ const ROOM: u64 = 1_048_576;
 /// The words of a command, and the outside that it is served in.
 #[derive(Clone, Copy)]
 struct Given<'a> {
-    words: &'a [&'a str],
+    /// Words with a space between each two.
+    words: &'a str,
     /// The bytes of the file `s`.
     script: &'a str,
     holds: &'a [Hold<'a>],
@@ -40,7 +41,7 @@ struct Ran {
 }
 
 /// These words, this script and these holds, where nothing fails.
-fn unfailing<'a>(words: &'a [&'a str], script: &'a str, holds: &'a [Hold<'a>]) -> Given<'a> {
+fn unfailing<'a>(words: &'a str, script: &'a str, holds: &'a [Hold<'a>]) -> Given<'a> {
     Given {
         words,
         script,
@@ -50,12 +51,13 @@ fn unfailing<'a>(words: &'a [&'a str], script: &'a str, holds: &'a [Hold<'a>]) -
     }
 }
 
-fn word_list(alloc: Global, list: &[&str]) -> Result<Vec<String>, Fail> {
-    let mut words = Vec::new(alloc);
-    for word in list {
-        words.push(String::from_str(alloc, word)?)?;
+/// The words as a process has them.
+fn split(alloc: Global, words: &str) -> Result<Vec<String>, Fail> {
+    let mut list = Vec::new(alloc);
+    for word in words.split(' ') {
+        list.push(String::from_str(alloc, word)?)?;
     }
-    Ok(words)
+    Ok(list)
 }
 
 fn sink(alloc: Global, given: &Given) -> Result<MemSink, Fail> {
@@ -66,7 +68,7 @@ fn sink(alloc: Global, given: &Given) -> Result<MemSink, Fail> {
 /// Serves a command. No other test calls `top`, whose contract is long.
 fn serve<R: AllocGlobal + Threads + Wait + Sync>(rt: &R, given: &Given) -> Result<Ran, Fail> {
     let alloc = rt.alloc();
-    let words = word_list(alloc, given.words)?;
+    let words = split(alloc, given.words)?;
     let mut files = MemFiles::new(files::all(alloc, given.script)?, Vec::new(alloc));
     let mut out = sink(alloc, given)?;
     let gate = HoldingGate::new(alloc, given.holds)?;
@@ -142,8 +144,8 @@ fn a_module_moves_while_a_call_is_inside(rt: HostRuntime) -> Result<(), Fail> {
                 }],
             },
         ];
-        let words = ["run", "--frames", "2", "s"];
-        let ran = serve(&rt, &unfailing(&words, CALL_AND_THREE_MOVES, &holds))?;
+        let words = "run --frames 2 s";
+        let ran = serve(&rt, &unfailing(words, CALL_AND_THREE_MOVES, &holds))?;
         expect_done(&rt, &ran);
         assert_eq!(rt; ran.written.as_str(), CALL_AND_THREE_MOVES_REPORT);
     }
@@ -251,9 +253,9 @@ const LINE_4_IS_BETWEEN: [Hold; 2] = [
 ];
 
 /// Words, a script, who is held up, and how the report begins.
-const RUNS: [(&[&str], &str, &[Hold], &str); 11] = [
+const RUNS: [(&str, &str, &[Hold], &str); 11] = [
     (
-        &["run", "s"],
+        "run s",
         "load m sum.o\ncall 0 m.sum 2 3\n",
         &[],
         "call 2 w0 m.sum at 0 under 3: returned 5
@@ -264,13 +266,13 @@ end calls 1 moves 0 mappings 3
 ",
     ),
     (
-        &["run", "s"],
+        "run s",
         "",
         &[],
         "map 1 stack w0 region 47222 start 24 pages 4 retired 0 unmapped 0\nend calls 0 moves 0 mappings 1\n",
     ),
     (
-        &["run", "s"],
+        "run s",
         MOVED_BETWEEN,
         &LINE_3_IS_BETWEEN,
         "call 2 w0 m.whereami at 0 under 3: returned 3435573248
@@ -284,7 +286,7 @@ end calls 2 moves 1 mappings 4
 ",
     ),
     (
-        &["run", "s"],
+        "run s",
         "load m cnt.o\ncall 0 m.add 5\ncall 0 m.add 2\nmove m\ncall 0 m.add 5\n",
         &LINE_4_IS_BETWEEN,
         "call 2 w0 m.add at 0 under 3: returned 5
@@ -294,7 +296,7 @@ call 5 w0 m.add at 2 under 4: returned 12
 ",
     ),
     (
-        &["run", "s"],
+        "run s",
         TWO_WORKERS,
         &WORKER_0_HAS_ITS_TURN,
         "call 4 w0 a.sum at 0 under 4: returned 5
@@ -304,7 +306,7 @@ move 7 b: mapping 8
 ",
     ),
     (
-        &["run", "--frames=2", "s"],
+        "run --frames=2 s",
         "load m sum.o\nmove m\nmove m\n",
         &[],
         "move 2 m: mapping 4
@@ -318,7 +320,7 @@ end calls 0 moves 2 mappings 5
 ",
     ),
     (
-        &["run", "s"],
+        "run s",
         "stack 0\n",
         &[],
         "stack 1 w0: mapping 2
@@ -328,25 +330,25 @@ end calls 0 moves 1 mappings 2
 ",
     ),
     (
-        &["run", "s", "--fuel", "3"],
+        "run s --fuel 3",
         "load m count.o\ncall 0 m.count 4\n",
         &[],
         "call 2 w0 m.count at 0 under 3: trap fuel\n",
     ),
     (
-        &["run", "s", "--fuel", "4"],
+        "run s --fuel 4",
         "load m count.o\ncall 0 m.count 4\n",
         &[],
         "call 2 w0 m.count at 0 under 3: returned 7\n",
     ),
     (
-        &["run", "s"],
+        "run s",
         "load m below.o\ncall 0 m.below\ncall 0 m.below\n",
         &[],
         "call 2 w0 m.below at 0 under 3: trap fault\ncall 3 w0 m.below at 1 under 3: trap fault\n",
     ),
     (
-        &["run", "s"],
+        "run s",
         "load a keeps.o\nload b sum.o\ncall 0 a.add\ncall 0 a.add\ncall 0 b.sum 2 3\n",
         &[],
         "call 3 w0 a.add at 0 under 3: returned 0
@@ -388,11 +390,8 @@ fn counters_script(alloc: Global) -> Result<String, Fail> {
 #[test]
 fn counters_of_64_workers(rt: HostRuntime) -> Result<(), Fail> {
     let script = counters_script(rt.alloc())?;
-    for words in [
-        ["run", "--slots=1", "--frames=2", "s"],
-        ["run", "--slots=16", "--frames=16", "s"],
-    ] {
-        let ran = serve(&rt, &unfailing(&words, script.as_str(), &[]))?;
+    for words in ["run --slots=1 --frames=2 s", "run --slots=16 --frames=16 s"] {
+        let ran = serve(&rt, &unfailing(words, script.as_str(), &[]))?;
         expect_done(&rt, &ran);
         assert_eq!(rt; ran.books.len(), 8);
         let mut calls = 0u64;
@@ -412,7 +411,7 @@ fn counters_of_64_workers(rt: HostRuntime) -> Result<(), Fail> {
 /// A script that can't be read leaves no table; a report that can't be written does, and a first part of it went out.
 #[test]
 fn faults_of_a_run(rt: HostRuntime) -> Result<(), Fail> {
-    let ran = serve(&rt, &unfailing(&["run", "absent"], "", &[]))?;
+    let ran = serve(&rt, &unfailing("run absent", "", &[]))?;
     assert!(rt; matches!(ran.fault, Some(Trouble::Read { .. })));
     assert!(rt; !ran.has_table && ran.written.is_empty());
     let ran = serve(
@@ -420,7 +419,7 @@ fn faults_of_a_run(rt: HostRuntime) -> Result<(), Fail> {
         &Given {
             most: 16,
             writes: &[2],
-            ..unfailing(&["run", "s"], "", &[])
+            ..unfailing("run s", "", &[])
         },
     )?;
     assert!(rt; matches!(ran.fault, Some(Trouble::Write)));
