@@ -70,11 +70,13 @@ pub struct Inside {
     slot: u64,
     entry: u64,
     place: Place,
+    /// The place as a word. It is kept, since each access to the pages compares with it.
+    word: u64,
 }
 
 impl Model for Inside {
     ghost use Rattle.std.specs.Prelude.{◌≡◌, ◌<◌};
-    ghost use Rattle.ad_base.specs.Place.{IsPlace};
+    ghost use Rattle.ad_base.specs.Place.{packed, IsPlace};
     ghost use Rattle.ad_maps.specs.declared.words.TheConstants.{FRAME_WORDS};
     ghost use Rattle.ad_maps.specs.Private.Handles.{acts_of, entry_in, module_in, stance_of, worker_of, IsPinned};
     ghost use Rattle.ad_maps.specs.Steps.{is_at_rest};
@@ -84,7 +86,7 @@ impl Model for Inside {
 
     ghost view = { λ s. record { seat = record { table = s.seat.table_id; worker = worker_of s.seat.me.0; acts = acts_of s.seat.me.0; at_rest = is_at_rest s.seat.me.0 }; of_module = module_in (stance_of s.seat.me.0); place = s.place } };
 
-    ghost invariant = { λ s. IsPinned s.seat.me s.slot s.place × (s.entry ≡ entry_in (stance_of s.seat.me.0)) × IsPlace s.place × (s.place.frame < FRAME_WORDS) };
+    ghost invariant = { λ s. IsPinned s.seat.me s.slot s.place × (s.entry ≡ entry_in (stance_of s.seat.me.0)) × IsPlace s.place × (s.place.frame < FRAME_WORDS) × (s.word ≡ packed s.place) };
 }
 
 /// The mover's seat.
@@ -210,6 +212,7 @@ impl Maps {
             slot,
             entry: entered / ONE_PUSH,
             place,
+            word,
         }
     }
 
@@ -232,7 +235,7 @@ impl Maps {
             return None;
         }
         let word = steps::page::<Brand>(&self.table, &mut inside.seat, inside.slot, &place, va);
-        page_in(word, &place, va)
+        page_in(word, inside.word, &place, va)
     }
 
     /// The word at an entry of the local area of the mapping that the worker is inside: for its own base, or the
@@ -265,6 +268,7 @@ impl Maps {
             slot,
             entry,
             place,
+            word: _,
         } = inside;
         let word = steps::leave(&self.table, &mut seat, slot, &place);
         pay_batches(&self.table, &mut seat, slot, entry, word / ONE_PUSH);
@@ -280,15 +284,16 @@ pub(crate) fn place_of(word: u64) -> Place
     Place::unpack(word).unwrap()
 }
 
-/// The page of an address, in the place of a mapping whose word is in the directory at its own region.
-fn page_in(word: u64, place: &Place, va: u64) -> Option<u64>
+/// The page of an address, in the place of a mapping whose own word is in the directory at its own region.
+fn page_in(word: u64, own: u64, place: &Place, va: u64) -> Option<u64>
     requires place { IsPlace place.now }
-    requires own { va / REGION_BYTES ≡ place.now.region → word ≡ packed place.now }
+    requires packs { own ≡ packed place.now }
+    requires here { va / REGION_BYTES ≡ place.now.region → word ≡ packed place.now }
     ensures inside { IfSome result (λ page. IsInside place.now va) }
     ensures page { IfSome result (λ page. page ≡ page_number place.now va) }
     ensures none { IfNone result (IsInside place.now va → ⊥) }
 {
-    if word != place.pack() {
+    if word != own {
         return None;
     }
     place.page_of(va)
