@@ -7,6 +7,7 @@ FOLDER has module.o. Each figure is the median of so many rounds, in which the s
 
 import os
 import re
+import subprocess
 import sys
 import time
 from collections import defaultdict
@@ -25,6 +26,8 @@ HOLDING_STEPS = [10_000, 100_000, 1_000_000, 10_000_000]  # of the call that hol
 HOLDING_FRAMES = [2, 8, 16]
 HOLDING_MOVES = 19_000
 FUEL = 100_000_000
+EXIT_DELAY = 40_000  # microseconds that a watched thread is held at its end
+LOOK_EACH = 0.01  # seconds between two looks at the threads that are watched
 
 
 @dataclass
@@ -33,8 +36,8 @@ class Spent:
 
     wall: float
     processor: float  # of all threads
-    main: float  # of the main thread, which the mover is in
-    main_wall: float  # the same, and how long that thread waited for a processor
+    mover: float  # of the mover's thread, where it is watched
+    mover_wall: float  # the same, and how long that thread waited for a processor
     made: int
     busy: int
     spent: int
@@ -63,6 +66,27 @@ def made_beside(report):
     return sum(number <= entered for number in made), outlasted
 
 
+def mover_thread(process):
+    """The scheduler's figures of the mover's thread: the first that the process started, which has the lowest number
+    behind the main thread's. None where no such thread is there."""
+    try:
+        threads = sorted(map(int, os.listdir(f"/proc/{process}/task")))[1:]
+        return Path(f"/proc/{process}/task/{threads[0]}/schedstat").read_text() if threads else None
+    except OSError:
+        return None
+
+
+def started_by(tracer, program):
+    """The process of this program that a tracer started, or None."""
+    try:
+        for child in Path(f"/proc/{tracer}/task/{tracer}/children").read_text().split():
+            if os.readlink(f"/proc/{child}/exe") == program:
+                return int(child)
+    except OSError:
+        pass
+    return None
+
+
 class Bench:
     """Scripts that are run by turns, and what each run took."""
 
@@ -70,13 +94,19 @@ class Bench:
         self.adelie, self.folder, self.rounds = adelie, folder, rounds
         self.words = {}
         self.runs = {}
+        self.watched = set()
+        self.copies = {}
 
-    def add(self, name, command, lines, *options):
-        """A script, which is run by this command."""
+    def add(self, name, command, lines, *options, watched=False, copies=1):
+        """A script, which is run by this command: by so many processes at once. Where it is watched, it is run once more in
+        each round, for the time of the mover's thread."""
         file = "script " + name
         (self.folder / file).write_text("".join(line + "\n" for line in lines))
         self.words[name] = [self.adelie, command, file, *options]
         self.runs[name] = []
+        self.copies[name] = copies
+        if watched:
+            self.watched.add(name)
 
     def run_all(self):
         for _ in range(self.rounds):
@@ -84,19 +114,34 @@ class Bench:
                 self.runs[name].append(self.run(name))
 
     def run(self, name):
-        """Runs a script once, and leaves its report."""
+        """Runs a script once, by each of its processes, and leaves a report."""
+        mover, waited = self.watch(name) if name in self.watched else (0, 0)
         began = time.perf_counter()
-        process = self.start(name)
-        os.waitid(os.P_PID, process, os.WEXITED | os.WNOWAIT)
+        processes = [self.start(name) for _ in range(self.copies[name])]
+        ends = [os.wait4(process, 0) for process in processes]
         wall = time.perf_counter() - began
-        running, waiting, _ = map(int, Path(f"/proc/{process}/schedstat").read_text().split())
-        _, status, used = os.wait4(process, 0)
-        if status != 0:
-            sys.exit(f"measure.py: {' '.join(self.words[name])} ended with {os.waitstatus_to_exitcode(status)}")
+        for _, status, _ in ends:
+            if status != 0:
+                sys.exit(f"measure.py: {' '.join(self.words[name])} ended with {os.waitstatus_to_exitcode(status)}")
         report = (self.folder / ("report " + name)).read_text()
-        processor = used.ru_utime + used.ru_stime
-        said = [*outcomes(report), *made_beside(report)]
-        return Spent(wall, processor, running / 1e9, (running + waiting) / 1e9, *said)
+        processor = sum(used.ru_utime + used.ru_stime for _, _, used in ends)
+        return Spent(wall, processor, mover, mover + waited, *outcomes(report), *made_beside(report))
+
+    def watch(self, name):
+        """Runs a script once, and gives for how many seconds the mover's thread ran and waited for a processor. The tracer
+        stops threads at their end alone, and holds them there so long that they can be looked at."""
+        held = f"inject=exit:delay_enter={EXIT_DELAY}"
+        words = ["strace", "-f", "-qq", "--seccomp-bpf", "-e", "trace=exit", "-e", held, "-o", "/dev/null"]
+        tracer = subprocess.Popen([*words, *self.words[name]], cwd=self.folder, stdout=subprocess.DEVNULL)
+        process, figures = None, None
+        while tracer.poll() is None:
+            process = process or started_by(tracer.pid, self.adelie)
+            figures = (process and mover_thread(process)) or figures
+            time.sleep(LOOK_EACH)
+        if tracer.returncode != 0 or figures is None:
+            sys.exit(f"measure.py: {' '.join(self.words[name])} under strace ended with {tracer.returncode}")
+        running, waiting, _ = map(int, figures.split())
+        return running / 1e9, waiting / 1e9
 
     def start(self, name):
         """Starts the program on a script, in the folder. Its process."""
@@ -139,6 +184,11 @@ def microseconds(seconds, count):
     return f"{1e6 * seconds / count:,.2f}" if seconds > 0 else "-"
 
 
+def ratio(seconds, others):
+    """How many times as long it takes, or none where the others are too short to be measured."""
+    return f"{seconds / others:.2f}" if others > 0 else "-"
+
+
 def milliseconds(seconds):
     return f"{1e3 * seconds:,.2f}"
 
@@ -152,26 +202,31 @@ def show(rows):
 
 
 def calls_table(bench):
-    """Calls a second, by seq and by run, of as many workers as modules."""
+    """Calls a second: by seq, by several processes of seq at once, and by run with as many workers as modules."""
     kinds = {"empty": ("empty", EMPTY_CALLS), "long": (busy(LONG_STEPS), LONG_CALLS)}
-    cases = [("seq", 1), ("seq", MODULES), *(("run", workers) for workers in range(1, MODULES + 1))]
-    for command, workers in cases:
+    each = range(1, MODULES + 1)
+    cases = [("seq", 1, workers) for workers in each] + [("run", workers, 1) for workers in each]
+    for command, workers, copies in cases:
         opening = heads(workers, workers)
-        bench.add(f"none {command} {workers}", command, opening)
+        bench.add(f"none {command} {workers} {copies}", command, opening, copies=copies)
         for kind, (called, count) in kinds.items():
-            bench.add(f"{kind} {command} {workers}", command, opening + calls(workers, count, called))
+            lines = opening + calls(workers, count, called)
+            bench.add(f"{kind} {command} {workers} {copies}", command, lines, copies=copies)
     bench.run_all()
     for kind, (_, count) in kinds.items():
-        rows = [["command", "workers", "calls", "wall, us/call", "processor, us/call", "calls/s", "of seq with 1"]]
-        first = None
-        for command, workers in cases:
-            name, none = f"{kind} {command} {workers}", f"none {command} {workers}"
+        rows = [["command", "workers", "processes", "calls", "wall, us/call", "processor, us/call", "calls/s"]]
+        rows[0] += ["of one seq", "of as many seq"]
+        walls = {}
+        for command, workers, copies in cases:
+            name, none = (f"{what} {command} {workers} {copies}" for what in (kind, "none"))
             wall, processor = bench.more(name, none, "wall"), bench.more(name, none, "processor")
-            made = count * workers
-            first = first or wall / made
-            times = f"{first * made / wall:.2f}" if wall > 0 else "-"
-            each = [microseconds(wall, made), microseconds(processor, made)]
-            rows.append([command, str(workers), f"{made:,}", *each, rate(made, wall), times])
+            walls[command, workers, copies] = wall
+            at_once = workers * copies
+            made = count * at_once
+            times = ratio(walls["seq", 1, 1] * at_once, wall)
+            beside = ratio(walls["seq", 1, at_once], wall) if command == "run" else ""
+            each_call = [microseconds(wall, made), microseconds(processor, made)]
+            rows.append([command, str(workers), str(copies), f"{made:,}", *each_call, rate(made, wall), times, beside])
         print(f"{kind} calls" + (f" of {LONG_STEPS:,} steps" if kind == "long" else ""))
         show(rows)
 
@@ -185,8 +240,8 @@ def moves_table(bench):
         if workers:
             lines += calls(workers, BUSY_STEPS // steps, busy(steps))
         moves = [f"move m{number % modules}" for number in range(MOVES)]
-        bench.add(f"still {workers} {steps}", "run", lines)
-        bench.add(f"moved {workers} {steps}", "run", lines + moves)
+        bench.add(f"still {workers} {steps}", "run", lines, watched=True)
+        bench.add(f"moved {workers} {steps}", "run", lines + moves, watched=True)
     bench.run_all()
     rows = [["workers", "steps/call", "made", "busy", "early", "to the end"]]
     rows[0] += ["mover, us/line", "by wall", "made/s", "wall, ms", "still", "processor, ms", "still"]
@@ -194,7 +249,7 @@ def moves_table(bench):
         name, still = f"moved {workers} {steps}", f"still {workers} {steps}"
         told = [f"{bench.middle(name, part):,.0f}" for part in ("made", "busy", "early")]
         outlasted = sum(spent.outlasted for spent in bench.runs[name]) if workers else 0
-        mover, mover_wall = bench.more(name, still, "main"), bench.more(name, still, "main_wall")
+        mover, mover_wall = bench.more(name, still, "mover"), bench.more(name, still, "mover_wall")
         made = rate(bench.middle(name, "made"), mover_wall)
         each = [microseconds(mover, MOVES), microseconds(mover_wall, MOVES), made]
         took = [milliseconds(bench.middle(which, part)) for part in ("wall", "processor") for which in (name, still)]
@@ -210,9 +265,11 @@ def frames_table(bench):
     bench.add("none", "run", opening)
     for steps in HOLDING_STEPS:
         lines = [*opening, f"call 0 m0.{busy(steps)}"]
-        bench.add(f"still {steps}", "run", lines, "--fuel", str(FUEL))
+        fuel = ["--fuel", str(FUEL)]
+        bench.add(f"still {steps}", "run", lines, *fuel, watched=True)
         for frames in HOLDING_FRAMES:
-            bench.add(f"held {steps} {frames}", "run", lines + moves, "--fuel", str(FUEL), "--frames", str(frames))
+            words = [*fuel, "--frames", str(frames)]
+            bench.add(f"held {steps} {frames}", "run", lines + moves, *words, watched=True)
     bench.run_all()
     rows = [["steps", "frames", "made", "busy", "spent", "busy on end", "mover, us/line", "busy for, ms", "call, ms"]]
     for steps in HOLDING_STEPS:
@@ -220,9 +277,9 @@ def frames_table(bench):
         for frames in HOLDING_FRAMES:
             name = f"held {steps} {frames}"
             told = [f"{bench.middle(name, part):,.0f}" for part in ("made", "busy", "spent", "streak")]
-            line = bench.more(name, f"still {steps}", "main") / HOLDING_MOVES
+            line = bench.more(name, f"still {steps}", "mover") / HOLDING_MOVES
             longest = HOLDING_STEPS[-1]
-            look = bench.more(f"held {longest} {frames}", f"still {longest}", "main") / HOLDING_MOVES
+            look = bench.more(f"held {longest} {frames}", f"still {longest}", "mover") / HOLDING_MOVES
             held = milliseconds(bench.middle(name, "streak") * look)
             rows.append([f"{steps:,}", str(frames), *told, microseconds(line, 1), held, milliseconds(call)])
     print(f"{HOLDING_MOVES:,} move lines beside one call")
