@@ -47,15 +47,10 @@ pub fn run_beside<R: Threads + Wait + Sync, G: Gate + Sync>(
     ensures moved { MakesSteps shared.now.maps.shape script.now (moving mover) (moving result.1) }
     ensures mover { IsMoverOf shared.now result.1 }
 {
-    thread::join(
+    // The mover has a thread of its own, and the calling thread starts the workers: so no worker waits for a start behind the
+    // moves, which are short beside it.
+    let (mover, jobs) = thread::join(
         rt,
-        move || -> Vec<Job>
-            requires fits { Fits shared.now }
-            requires ready { All (IsReady shared.now) jobs.items }
-            ensures count { length result.items ≡ length jobs.items }
-            ensures worked { (worker : ℕ) (other : Job) → worker < length jobs.items
-                → HasWorked shared.entry.now (slice_index_or jobs.items worker other) (slice_index_or result.items worker other) }
-        { worked(rt, shared, jobs, gate) },
         move || -> Mover
             requires fits { Fits shared.now }
             requires mover { IsMoverOf shared.now mover }
@@ -66,7 +61,15 @@ pub fn run_beside<R: Threads + Wait + Sync, G: Gate + Sync>(
             ensures moved { MakesSteps shared.entry.now.maps.shape script.entry.now (moving mover) (moving result) }
             ensures mover { IsMoverOf shared.entry.now result }
         { run_moves(shared, mover, script, gate) },
-    )
+        move || -> Vec<Job>
+            requires fits { Fits shared.now }
+            requires ready { All (IsReady shared.now) jobs.items }
+            ensures count { length result.items ≡ length jobs.items }
+            ensures worked { (worker : ℕ) (other : Job) → worker < length jobs.items
+                → HasWorked shared.entry.now (slice_index_or jobs.items worker other) (slice_index_or result.items worker other) }
+        { worked(rt, shared, jobs, gate) },
+    );
+    (jobs, mover)
 }
 
 /// Makes the calls of all workers.
