@@ -1,5 +1,5 @@
 pub mod Cutting
 pub mod Digits
 pub mod FirstWord
-pub mod Hearing
+pub mod Parsing
 pub mod Ranges

@@ -5,7 +5,7 @@ use Rattle.std.specs.Str.{all_ascii_digits}
 use Rattle.std.specs.Str.Parse.{digits_value}
 use Rattle.std.proofs.lemmas.Bool.{and_parts, leb-true}
 use Rattle.ad_words.specs.Laws.{IsInRange}
-use Rattle.ad_words.specs.Words.{Gen, Numbers, OptionRow, Predict, Run, Said, Seq, Settings, Show, Values, command_of, command_said, command_with, frames_option, fuel_option, generated_numbers, is_of_task, number_of, number_taken, only, operands, said_by, seed_option, settings_of, settings_with, slots_option, values_said}
+use Rattle.ad_words.specs.Words.{Gen, Numbers, OptionRow, Predict, Run, Said, Seq, Settings, Show, Values, command_of, command_said, command_with, frames_option, fuel_option, generated_numbers, is_of_task, number_taken, option_number, only, operands, said_by, seed_option, settings_of, settings_with, slots_option, values_said}
 
 -- a value that is given behind a test meets what the test shows
 if_tested : {A : Type 0} (test : Bool) (value : A) (P : A → Type 0) → (test ≡ true → P value) → IfSome (cond test (Some value) None) P
@@ -23,11 +23,11 @@ number_taken-in_range numbers word =
     let least = and_parts (nat_lt 0 (length word) && all_ascii_digits word) _ most.0 in
     (leb-true _ _ least.1, leb-true _ _ most.1))
 
-number_of-in_range : (option : OptionRow) (given : List (List ℕ)) → IsOneOf option.numbers option.default
-    → IfSome (number_of option given) (IsOneOf option.numbers)
-number_of-in_range option [] within = within
-number_of-in_range option (value ∷ []) within = number_taken-in_range option.numbers value
-number_of-in_range option (first ∷ second ∷ more) within = tt
+option_number-in_range : (option : OptionRow) (given : List (List ℕ)) → IsOneOf option.numbers option.default
+    → IfSome (option_number option given) (IsOneOf option.numbers)
+option_number-in_range option [] within = within
+option_number-in_range option (value ∷ []) within = number_taken-in_range option.numbers value
+option_number-in_range option (first ∷ second ∷ more) within = tt
 
 -- the number of each option is one of those that it takes
 record AreInRange (settings : Settings) : Type 0 where
@@ -47,8 +47,8 @@ settings_with-in_range (Some seed) (Some fuel) (Some slots) (Some frames) s f l 
 
 settings_of-in_range : (given : Values) → IfSome (settings_of given) AreInRange
 settings_of-in_range given = settings_with-in_range _ _ _ _
-    (number_of-in_range seed_option given.seed (lit≤ tt, lit≤ tt)) (number_of-in_range fuel_option given.fuel (lit≤ tt, lit≤ tt))
-    (number_of-in_range slots_option given.slots (lit≤ tt, lit≤ tt)) (number_of-in_range frames_option given.frames (lit≤ tt, lit≤ tt))
+    (option_number-in_range seed_option given.seed (lit≤ tt, lit≤ tt)) (option_number-in_range fuel_option given.fuel (lit≤ tt, lit≤ tt))
+    (option_number-in_range slots_option given.slots (lit≤ tt, lit≤ tt)) (option_number-in_range frames_option given.frames (lit≤ tt, lit≤ tt))
 
 command_with-in_range : (task : List ℕ) (operand : Option (List ℕ)) (settings : Option Settings) → IfSome settings AreInRange
     → IfSome (command_with task operand settings) IsInRange

@@ -1,3 +1,3 @@
 -- Definitions that serve private functions alone.
-pub mod Heard
+pub mod Parsing
 pub mod Seen

@@ -169,10 +169,10 @@ number_taken numbers word =
     else None
 
 -- the number of an option that is given these values, at most one
-abbrev pub number_of : OptionRow → List (List ℕ) → Option ℕ
-number_of option [] = Some option.default
-number_of option (value ∷ []) = number_taken option.numbers value
-number_of option (first ∷ second ∷ more) = None
+abbrev pub option_number : OptionRow → List (List ℕ) → Option ℕ
+option_number option [] = Some option.default
+option_number option (value ∷ []) = number_taken option.numbers value
+option_number option (first ∷ second ∷ more) = None
 
 -- The number of each option.
 pub record Settings : Type 0 where
@@ -188,8 +188,8 @@ settings_with seed fuel slots frames = None
 
 -- the numbers of the options that are given these values
 abbrev pub settings_of : Values → Option Settings
-settings_of given = settings_with (number_of seed_option given.seed) (number_of fuel_option given.fuel)
-    (number_of slots_option given.slots) (number_of frames_option given.frames)
+settings_of given = settings_with (option_number seed_option given.seed) (option_number fuel_option given.fuel)
+    (option_number slots_option given.slots) (option_number frames_option given.frames)
 
 -- the command of a task, with its operand and the numbers of the options
 abbrev pub command_with : List ℕ → Option (List ℕ) → Option Settings → Option Command

@@ -4,12 +4,12 @@
 mod command;
 mod kind;
 mod laws;
+mod parsed;
 mod read;
 mod setting;
 mod task;
 #[cfg(test)]
 mod tests;
-mod told;
 
 pub use command::{
     Command, FRAMES, FUEL, LEAST_FRAMES, MOST_FRAMES, MOST_FUEL, MOST_GENERATED, MOST_SLOTS, SEED,

@@ -1,14 +1,14 @@
 //! The reader of the words.
 
 ghost use Rattle.std.specs.Prelude.{◌≡◌, ◌≤◌, ◌∷◌, length, IfSome, [], None, MatchOption, map, option_and_then, option_map, string_bytes};
-ghost use Rattle.ad_words.specs.Private.Heard.{command_heard, command_left};
+ghost use Rattle.ad_words.specs.Private.Parsing.{command_left, command_parsed};
 ghost use Rattle.ad_words.specs.Private.Seen.{command_seen, task_word};
 ghost use Rattle.ad_words.specs.Words.{command_of, command_said, said_by};
 
 use crate::command::Command;
 use crate::kind::{Kind, word_kind};
+use crate::parsed::Parsed;
 use crate::task::{Task, task_named};
-use crate::told::Told;
 
 /// The command of these words, or `None` where they aren't in the grammar.
 pub fn read_words(words: &[String]) -> Option<Command<'_>>
@@ -18,56 +18,67 @@ pub fn read_words(words: &[String]) -> Option<Command<'_>>
         return None;
     };
     let task = task_named(first.as_str())?;
-    let told = read_rest(task, rest)?;
-    told.command(task)
+    let parsed = read_rest(task, rest)?;
+    parsed.command(task)
 }
 
 /// Reads the words behind the first.
-fn read_rest(task: Task, words: &[String]) -> Option<Told<'_>>
+fn read_rest(task: Task, words: &[String]) -> Option<Parsed<'_>>
     ensures { let command = option_and_then (command_said (task_word task)) (said_by (map string_bytes words.now)) in
-        MatchOption result (command ≡ None) (λ told. command ≡ command_heard (task_word task) told []) }
+        MatchOption result (command ≡ None) (λ parsed. command ≡ command_parsed (task_word task) parsed []) }
 {
-    let mut told = Told::nothing();
+    let mut parsed = Parsed::nothing();
     let mut rest = words;
     while !rest.is_empty() {
-        let part = read_part(task, told, rest[0].as_str(), &rest[1..])?;
-        told = part.told;
+        let part = read_part(task, parsed, rest[0].as_str(), &rest[1..])?;
+        parsed = part.parsed;
         rest = part.rest;
     }
-    Some(told)
+    Some(parsed)
 }
 
 /// What was read, and the words that are left.
 #[derive(Clone, Copy)]
 struct Part<'a> {
-    told: Told<'a>,
+    parsed: Parsed<'a>,
     rest: &'a [String],
 }
 
 /// Reads a word and those behind it that belong to it: an operand, an option with its value, or `--` with all others.
-fn read_part<'a>(task: Task, told: Told<'a>, word: &'a str, after: &'a [String]) -> Option<Part<'a>>
-    ensures command { let command = command_left (task_word task) told.entry (word.now ∷ map string_bytes after.now) in
+fn read_part<'a>(
+    task: Task,
+    parsed: Parsed<'a>,
+    word: &'a str,
+    after: &'a [String],
+) -> Option<Part<'a>>
+    ensures command { let command = command_left (task_word task) parsed.entry (word.now ∷ map string_bytes after.now) in
         MatchOption result (command ≡ None)
-        (λ part. command ≡ command_left (task_word task) part.told (map string_bytes part.rest.now)) }
+        (λ part. command ≡ command_left (task_word task) part.parsed (map string_bytes part.rest.now)) }
     ensures fewer { IfSome result (λ part. length part.rest.now ≤ length after.now) }
 {
     match word_kind(word) {
         Kind::End => {
-            let told = told.with_operands(after)?;
-            Some(Part { told, rest: &[] })
+            let parsed = parsed.with_operands(after)?;
+            Some(Part { parsed, rest: &[] })
         }
         Kind::Plain => {
-            let told = told.with_operand(word)?;
-            Some(Part { told, rest: after })
+            let parsed = parsed.with_operand(word)?;
+            Some(Part {
+                parsed,
+                rest: after,
+            })
         }
         Kind::Joined { name, value } => {
-            let told = told.with_option(task, name, value)?;
-            Some(Part { told, rest: after })
+            let parsed = parsed.with_option(task, name, value)?;
+            Some(Part {
+                parsed,
+                rest: after,
+            })
         }
         Kind::Apart { name } => {
             let (value, rest) = after.split_first()?;
-            let told = told.with_option(task, name, value.as_str())?;
-            Some(Part { told, rest })
+            let parsed = parsed.with_option(task, name, value.as_str())?;
+            Some(Part { parsed, rest })
         }
         Kind::Wrong => None,
     }

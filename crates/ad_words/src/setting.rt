@@ -4,7 +4,7 @@ ghost use Rattle.std.specs.Prelude.{◌≡◌, ◌<◌, ◌^◌, ℕ, List, Opti
 ghost use Rattle.std.specs.Str.{all_ascii_digits};
 ghost use Rattle.std.specs.Str.Parse.{digits_value};
 ghost use Rattle.ad_words.specs.Private.Seen.{range_seen, row_of, task_word};
-ghost use Rattle.ad_words.specs.Words.{Given, generated_numbers, is_of_task, number_of, number_taken};
+ghost use Rattle.ad_words.specs.Words.{Given, generated_numbers, is_of_task, number_taken, option_number};
 
 use crate::command::{
     FRAMES, FUEL, LEAST_FRAMES, MOST_FRAMES, MOST_FUEL, MOST_GENERATED, MOST_SLOTS, SEED, SLOTS,
@@ -79,7 +79,7 @@ pub fn setting_named(task: Task, name: &str) -> Option<Setting>
 
 /// The number of an option that is given this value, or none.
 pub fn number(setting: Setting, value: Option<&str>) -> Option<u64>
-    ensures { result ≡ number_of (row_of setting) (option_to_list (option_copied value.entry)) }
+    ensures { result ≡ option_number (row_of setting) (option_to_list (option_copied value.entry)) }
 {
     let row = row_of(setting);
     match value {

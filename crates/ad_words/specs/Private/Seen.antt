@@ -8,7 +8,7 @@ use Rattle.ad_words.specs.declared.setting.Range.{Range}
 use Rattle.ad_words.specs.declared.setting.Setting.{Setting}
 use Rattle.ad_words.specs.declared.setting.Settings as numbers
 use Rattle.ad_words.specs.declared.setting.Setting.TheVariants as settings
-use Rattle.ad_words.specs.declared.kind.Kind as told
+use Rattle.ad_words.specs.declared.kind.Kind as code
 use Rattle.ad_words.specs.declared.kind.Kind.TheVariants as kinds
 use Rattle.ad_words.specs.Words.{Apart, Command, End, Gen, Joined, Kind, Numbers, OptionRow, Plain, Predict, Run, Seq, Settings, Show, Wrong, frames_option, fuel_option, seed_option, slots_option}
 
@@ -44,7 +44,7 @@ abbrev pub range_seen : Range → Numbers
 range_seen range = record { least = range.least; most = range.most }
 
 -- what a word is, with its parts as bytes
-abbrev pub kind_seen : told.Kind → Kind
+abbrev pub kind_seen : code.Kind → Kind
 kind_seen kinds.End = End
 kind_seen kinds.Plain = Plain
 kind_seen (kinds.Joined name value) = Joined name.now value.now

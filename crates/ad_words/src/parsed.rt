@@ -1,7 +1,7 @@
 //! What was read of the words so far.
 
 ghost use Rattle.std.specs.Prelude.{◌≡◌, ℕ, List, [], map, option_map, MatchOption, None, string_bytes};
-ghost use Rattle.ad_words.specs.Private.Heard.{Hears, HearsValue, command_heard, values_heard};
+ghost use Rattle.ad_words.specs.Private.Parsing.{Parses, ParsesValue, command_parsed, values_parsed};
 ghost use Rattle.ad_words.specs.Private.Seen.{command_seen, row_of, settings_seen, task_word};
 ghost use Rattle.ad_words.specs.Words.{Given, Operand, Said, command_said, settings_of};
 
@@ -11,7 +11,7 @@ use crate::task::Task;
 
 /// The operand and the values of the options, where they were read.
 #[derive(Clone, Copy)]
-pub struct Told<'a> {
+pub struct Parsed<'a> {
     operand: Option<&'a str>,
     values: Values<'a>,
 }
@@ -25,12 +25,12 @@ struct Values<'a> {
     frames: Option<&'a str>,
 }
 
-impl<'a> Told<'a> {
+impl<'a> Parsed<'a> {
     /// Nothing was read.
-    pub fn nothing() -> Told<'a>
-        ensures { (task : List ℕ) (said : List Said) → command_heard task result said ≡ command_said task said }
+    pub fn nothing() -> Parsed<'a>
+        ensures { (task : List ℕ) (said : List Said) → command_parsed task result said ≡ command_said task said }
     {
-        Told {
+        Parsed {
             operand: None,
             values: Values {
                 seed: None,
@@ -42,12 +42,12 @@ impl<'a> Told<'a> {
     }
 
     /// An operand was read, unless there was one.
-    pub fn with_operand(self, word: &'a str) -> Option<Told<'a>>
-        ensures { (task : List ℕ) → Hears task self.entry (Operand word.now) result }
+    pub fn with_operand(self, word: &'a str) -> Option<Parsed<'a>>
+        ensures { (task : List ℕ) → Parses task self.entry (Operand word.now) result }
     {
         match self.operand {
             Some(_) => None,
-            None => Some(Told {
+            None => Some(Parsed {
                 operand: Some(word),
                 ..self
             }),
@@ -55,10 +55,10 @@ impl<'a> Told<'a> {
     }
 
     /// All other words are operands.
-    pub fn with_operands(self, words: &'a [String]) -> Option<Told<'a>>
+    pub fn with_operands(self, words: &'a [String]) -> Option<Parsed<'a>>
         ensures { (task : List ℕ) → MatchOption result
-            (command_heard task self.entry (map Operand (map string_bytes words.now)) ≡ None)
-            (λ told. command_heard task self.entry (map Operand (map string_bytes words.now)) ≡ command_heard task told []) }
+            (command_parsed task self.entry (map Operand (map string_bytes words.now)) ≡ None)
+            (λ parsed. command_parsed task self.entry (map Operand (map string_bytes words.now)) ≡ command_parsed task parsed []) }
     {
         match words {
             [] => Some(self),
@@ -68,17 +68,17 @@ impl<'a> Told<'a> {
     }
 
     /// An option with its value was read, unless it doesn't belong to the task or was read before.
-    pub fn with_option(self, task: Task, name: &str, value: &'a str) -> Option<Told<'a>>
-        ensures { Hears (task_word task) self.entry (Given name.now value.now) result }
+    pub fn with_option(self, task: Task, name: &str, value: &'a str) -> Option<Parsed<'a>>
+        ensures { Parses (task_word task) self.entry (Given name.now value.now) result }
     {
         let setting = setting_named(task, name)?;
         let values = self.values.with(setting, value)?;
-        Some(Told { values, ..self })
+        Some(Parsed { values, ..self })
     }
 
     /// The command of the task, with what was read.
     pub fn command(self, task: Task) -> Option<Command<'a>>
-        ensures { option_map command_seen result ≡ command_heard (task_word task) self.entry [] }
+        ensures { option_map command_seen result ≡ command_parsed (task_word task) self.entry [] }
     {
         let operand = self.operand?;
         let Settings {
@@ -118,7 +118,7 @@ impl<'a> Told<'a> {
 impl<'a> Values<'a> {
     /// The option's value was read, unless it had one.
     fn with(self, setting: Setting, value: &'a str) -> Option<Values<'a>>
-        ensures { HearsValue self.entry (Given (row_of setting).name value.now) result }
+        ensures { ParsesValue self.entry (Given (row_of setting).name value.now) result }
     {
         match setting {
             Setting::Seed if self.seed.is_none() => Some(Values {
@@ -143,7 +143,7 @@ impl<'a> Values<'a> {
 
     /// The number of each option.
     fn settings(self) -> Option<Settings>
-        ensures { option_map settings_seen result ≡ settings_of (values_heard self.entry []) }
+        ensures { option_map settings_seen result ≡ settings_of (values_parsed self.entry []) }
     {
         Some(Settings {
             seed: number(Setting::Seed, self.seed)?,
