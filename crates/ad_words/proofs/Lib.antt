@@ -1,5 +1,9 @@
 pub mod Cutting
 pub mod Digits
 pub mod FirstWord
+pub mod Forms
+pub mod Order
 pub mod Parsing
 pub mod Ranges
+pub mod Split
+pub mod Whole

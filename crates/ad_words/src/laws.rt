@@ -1,7 +1,7 @@
 //! Laws of the grammar.
 
 ghost use Rattle.std.specs.Prelude.{◌≡◌, ℕ, List, IfSome};
-ghost use Rattle.ad_words.specs.Laws.{IsInRange, TakesAnyOperand, TakesBothForms};
+ghost use Rattle.ad_words.specs.Laws.{DependsOnWhatIsSaid, EndsOptions, IsInRange, SaysInWholeWords, TakesAnyOrder, TakesBothForms, TakesOptionsAnywhere};
 ghost use Rattle.ad_words.specs.Words.{command_of};
 
 use crate::command::{
@@ -26,12 +26,33 @@ pub fn law_in_range()
     ensures { (words : List (List ℕ)) → IfSome (command_of words) IsInRange }
 {}
 
-/// Behind `--` any word is an operand. That of `gen` is a number.
-pub fn law_any_operand()
-    ensures { TakesAnyOperand }
-{}
-
-/// An option says the same in both its forms.
+/// An option says the same in both its forms, wherever it stands.
 pub fn law_both_forms()
     ensures { TakesBothForms }
+{}
+
+/// An option and an operand that follow one another may be exchanged: an option may stand before an operand or behind it.
+pub fn law_words_stand_anywhere()
+    ensures { TakesOptionsAnywhere }
+{}
+
+/// Two options of different names that follow one another may be exchanged.
+pub fn law_any_order()
+    ensures { TakesAnyOrder }
+{}
+
+/// A command depends on the operands in order, and of each option on its values in order: on nothing else.
+pub fn law_what_is_said()
+    ensures { DependsOnWhatIsSaid }
+{}
+
+/// Behind `--` each word is an operand, whatever it begins with.
+pub fn law_end_of_options()
+    ensures { EndsOptions }
+{}
+
+/// Words that are each in the grammar where they stand are operands and options with their values, to their end or up to
+/// a `--`.
+pub fn law_whole_words()
+    ensures { SaysInWholeWords }
 {}

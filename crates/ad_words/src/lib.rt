@@ -15,5 +15,8 @@ pub use command::{
     Command, FRAMES, FUEL, LEAST_FRAMES, MOST_FRAMES, MOST_FUEL, MOST_GENERATED, MOST_SLOTS, SEED,
     SLOTS,
 };
-pub use laws::{law_any_operand, law_both_forms, law_defaults, law_in_range};
+pub use laws::{
+    law_any_order, law_both_forms, law_defaults, law_end_of_options, law_in_range,
+    law_what_is_said, law_whole_words, law_words_stand_anywhere,
+};
 pub use read::read_words;
