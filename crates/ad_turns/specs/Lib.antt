@@ -2,6 +2,7 @@ pub mod Laws
 pub mod Lending
 pub mod Merged
 pub mod Names
+pub mod Opening
 pub mod Private
 pub mod Rule
 pub mod Seen

@@ -1,4 +1,4 @@
-//! The laws of the steps. Each function makes no call: its contract is the law.
+//! The laws of the opening and of the steps. Each function makes no call: its contract is the law.
 
 ghost use Rattle.std.specs.Prelude.{◌≡◌, [], ◌∷◌};
 ghost use Rattle.atomic_table.specs.Seated.{TableId};
@@ -6,7 +6,16 @@ ghost use Rattle.ad_base.specs.Book.{contents_of};
 ghost use Rattle.ad_turns.specs.Turns.{turns_at, turns_by, turns_of, AreNumbered, AddsOwnEntry, Reaches};
 ghost use Rattle.ad_turns.specs.Merged.{AreReached, IsReached};
 ghost use Rattle.ad_turns.specs.Worked.{worked_books, worked_earlier, worked_last, worked_later, worked_made, worked_opening, worked_openings, worked_other, worked_seats};
+ghost use Rattle.ad_turns.specs.Opening.{DealtLaw, OpenedLaw, WordsLaw};
 ghost use Rattle.ad_turns.specs.Laws.{DrawLaw, DrawsLaw, EnterLaw, HeldLaw, JoinLaw, LookLaw, MissLaw, NoteLaw, PassLaw, SplitLaw, TicketsLaw};
+
+/// A table as it is opened meets the rule, and so it does behind each seat that is dealt. The words that it begins with
+/// say that no ticket was drawn, and that the first one is served next.
+pub fn law_opening()
+    ensures words { WordsLaw }
+    ensures opened { OpenedLaw }
+    ensures dealt { DealtLaw }
+{}
 
 /// A draw keeps the rule.
 pub fn law_draw()
