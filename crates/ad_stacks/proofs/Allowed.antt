@@ -23,7 +23,7 @@ use Rattle.ad_stacks.specs.Steps.{Sat, hand, taken_by, after_take, after_put, af
 use Rattle.ad_stacks.specs.Laws.{MayRecord, counted}
 use Rattle.ad_stacks.proofs.Changed.{changed_here}
 use Rattle.ad_stacks.specs.Private.Handles.{IsWorker, IsMover, IsAt, IsOwing, plan_of, gathered_plan}
-use Rattle.ad_stacks.specs.Private.Opening.{dealt_out}
+use Rattle.ad_stacks.specs.Opening.{mover_dealt}
 use Rattle.ad_stacks.proofs.Sound.{sound_of}
 use Rattle.ad_stacks.proofs.StepLaws.{take_found, take_law, taken_is, put_law, gone_law, mover_gone_law, record_law, refresh_law, refresh_found, lane_number, mark_law, split_law, join_law}
 
@@ -91,9 +91,9 @@ module _ (openings : List Place) (slots id : ℕ) where
       (after_mark (Mover (plan_of me.0)) 0, keeps, tt, step.0, refl)))
 
 -- the next worker's seat may be split off
-pub allows_split : (openings : List Place) (id : ℕ) (me : Sat) (k : ℕ) → me ≡ (dealt_out openings k, []) → k < length openings → Splits (Kept openings) id me.0 (after_deal me.0) (given_off me.0)
+pub allows_split : (openings : List Place) (id : ℕ) (me : Sat) (k : ℕ) → me ≡ (mover_dealt openings k, []) → k < length openings → Splits (Kept openings) id me.0 (after_deal me.0) (given_off me.0)
 allows_split openings id me k is few = subst (λ (m : Sat). Splits (Kept openings) id m.0 (after_deal m.0) (given_off m.0)) (sym is)
-    (λ s r at. (split_law openings s r id (plan_of (dealt_out openings k)) at few refl).0)
+    (λ s r at. (split_law openings s r id (plan_of (mover_dealt openings k)) at few refl).0)
 
 -- the next worker's seat may be joined to the mover's
 module _ (me me' : Sat) (q : Plan) (hands : List Hand) (w : ℕ) (is : me ≡ (Mover (gathered_plan q hands), [])) (is' : me' ≡ (Worker w (hand stance.Rest (taken_by me'.0)), [])) where

@@ -5,7 +5,9 @@ pub mod Ended
 pub mod Frames
 pub mod InOrder
 pub mod Numbers
+pub mod OpeningLaws
 pub mod Openings
+pub mod OpeningWords
 pub mod ReadingLaws
 pub mod Rows
 pub mod Seats

@@ -2,6 +2,7 @@ pub mod History
 pub mod Laws
 pub mod Ledger
 pub mod Names
+pub mod Opening
 pub mod Private
 pub mod Reading
 pub mod Rule

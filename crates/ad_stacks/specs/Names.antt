@@ -1,5 +1,6 @@
 -- The words of the table, by name.
-use Rattle.std.specs.Prelude.{◌≡◌, ℕ, ◌+◌, ◌<◌, ◌==◌, List, length, slice_index, if◌then◌else◌}
+use Rattle.std.specs.Prelude.{◌≡◌, ℕ, ◌+◌, ◌<◌, ◌==◌, List, ◌++◌, map, length, slice_index, if◌then◌else◌}
+use Rattle.std.specs.List.{range_with_len}
 use Rattle.ad_stacks.specs.declared.words.TheConstants.{LANES, NUMBERS, WORDS}
 
 -- the lane of a worker, the record of a mapping, the mark of a mapping
@@ -45,3 +46,7 @@ wrote ws (Mark m) x = record ws { mark = changed ws.mark m x }
 -- the table's words are these
 abbrev pub AreWords : List ℕ → Words → Type 0
 AreWords xs ws = (length xs ≡ WORDS) × ((n : Name) → IsName n → slice_index xs (index n) ≡ read ws n)
+
+-- the words, in the order in which they stand
+unfoldable pub in_order : Words → List ℕ
+in_order ws = map ws.lane (range_with_len 0 LANES) ++ map ws.recorded (range_with_len 0 NUMBERS) ++ map ws.mark (range_with_len 0 NUMBERS)

@@ -157,6 +157,10 @@ pub record Kept (openings : List Place) (s : St) : Type 0 where
   pub dealt : Dealt past stances (length openings) plan
   pub planned : PlanStands words.recorded past (length openings) plan
 
+-- what the mover knows at first: the lanes were given the places of the opening, and no worker has its seat
+abbrev pub starting_plan : List Place → Plan
+starting_plan openings = record { stage = stage.Idle; dealt = 0; newest = map (λ p. p.mapping) openings; made = []; back = [] }
+
 -- the view of the first seat, the mover's
 abbrev pub starting : List Place → Doing
-starting openings = Mover (record { stage = stage.Idle; dealt = 0; newest = map (λ p. p.mapping) openings; made = []; back = [] })
+starting openings = Mover (starting_plan openings)

@@ -7,7 +7,17 @@ ghost use Rattle.ad_stacks.specs.History.{in_lane, gone, line_of, status, takes_
 ghost use Rattle.ad_stacks.specs.Ledger.{by_number, stack_mappings};
 ghost use Rattle.ad_stacks.specs.Worked.{worked_history, worked_place, worked_refresh, worked_rows};
 ghost use Rattle.ad_stacks.specs.Reading.{ReadingLaw, HeldLaw, QuietLaw, LanesLaw, HandsLaw, NumbersLaw, GoneOnceLaw};
+ghost use Rattle.ad_stacks.specs.Opening.{OpeningWordsLaw, OpenedLaw, DealtLaw};
 ghost use Rattle.ad_stacks.specs.Laws.{TakeLaw, PutLaw, GoneLaw, MoverGoneLaw, RecordLaw, RefreshLaw, MarkLaw, SplitLaw, JoinLaw};
+
+/// A table that is opened begins with the words of its openings: each lane has its stack, no unmap step is counted, and
+/// no mapping is marked. With these words, and the mover's view, it meets the rule, and so does it behind each seat
+/// that is dealt to a worker.
+pub fn law_opening()
+    ensures words { OpeningWordsLaw }
+    ensures opened { OpenedLaw }
+    ensures dealt { DealtLaw }
+{}
 
 /// A take is lawful, keeps the rule, and is the event `took`, of the place whose word it found.
 pub fn law_take()

@@ -2,11 +2,11 @@
 
 ghost use Rattle.std.specs.Prelude.{◌≡◌, ◌≢◌, ◌<◌, ◌≤◌, [], length, map, vec_len, All, AllPairs, IfOk, OnOk};
 ghost use Rattle.ad_base.specs.declared.place.Place.{Place};
-ghost use Rattle.ad_stacks.specs.Names.{AreWords};
+ghost use Rattle.ad_stacks.specs.Names.{in_order};
+ghost use Rattle.ad_stacks.specs.Opening.{mover_dealt, opening_words};
 ghost use Rattle.ad_stacks.specs.Seen.{AreNew};
 ghost use Rattle.ad_stacks.specs.StackPlace.{IsStackPlace};
 ghost use Rattle.ad_stacks.specs.Private.Handles.{IsAt};
-ghost use Rattle.ad_stacks.specs.Private.Opening.{dealt_out, laid};
 
 use crate::stacks::{StackMover, StackSeat, Stacks};
 use crate::steps::ONE_LANE;
@@ -65,7 +65,9 @@ fn numbers_of(alloc: Global, places: &[Place]) -> Result<Vec<u64>, OutOfMemory>
 fn words_of(alloc: Global, places: &[Place]) -> Result<Vec<u64>, OutOfMemory>
     requires lanes { length places.now ≤ LANES }
     requires places { All IsStackPlace places.now }
-    ensures { IfOk result (λ words. AreWords words.items (laid places.now (length places.now))) }
+    requires numbers { AllPairs (λ (p q : Place). p.mapping ≢ q.mapping) places.now }
+    ensures len { IfOk result (λ words. length words.items ≡ WORDS) }
+    ensures value { IfOk result (λ words. words.items ≡ in_order (opening_words places.now)) }
 {
     let mut words = zero_words(alloc, WORDS)?;
     for lane in 0..places.len() {
@@ -87,9 +89,9 @@ fn deal(
     requires at { IsAt table.now.shared.table_id mover.old.table_id }
     requires lanes { lanes ≡ length table.now.shared.key.items }
     requires few { lanes ≤ LANES }
-    requires none { mover.old.me ≡ (dealt_out table.now.shared.key.items 0, []) }
+    requires none { mover.old.me ≡ (mover_dealt table.now.shared.key.items 0, []) }
     ensures at { mover.new.table_id ≡ mover.old.table_id }
-    ensures dealt { OnOk result (mover.new.me ≡ (dealt_out table.now.shared.key.items lanes, [])) }
+    ensures dealt { OnOk result (mover.new.me ≡ (mover_dealt table.now.shared.key.items lanes, [])) }
     ensures seats { IfOk result (λ seats. AreNew table.now.shared.table_id lanes seats.items) }
 {
     let mut seats = Vec::with_capacity(alloc, lanes)?;

@@ -1,10 +1,7 @@
 -- The table as it is opened: lane by lane.
-use Rattle.std.specs.Prelude.{ℕ, zero, suc, List, [], ◌∷◌, map, slice_index_or}
+use Rattle.std.specs.Prelude.{ℕ, zero, suc, List, [], ◌∷◌, slice_index_or}
 use Rattle.ad_base.specs.declared.place.Place.{Place}
 use Rattle.ad_base.specs.Place.{packed}
-use Rattle.ad_stacks.specs.declared.view.Stage.TheVariants as stage
-use Rattle.ad_stacks.specs.declared.view.Doing.{Doing}
-use Rattle.ad_stacks.specs.declared.view.Doing.TheVariants.{Mover}
 use Rattle.ad_stacks.specs.History.{Event, opened}
 use Rattle.ad_stacks.specs.Names.{Words, Lane, Record, wrote}
 use Rattle.ad_stacks.specs.StackPlace.{record_word}
@@ -28,7 +25,3 @@ laid openings zero = record { lane = λ _. 0; recorded = λ _. 0; mark = λ _. 0
 laid openings (suc k) =
     let p : Place = place_of_lane openings k in
     wrote (wrote (laid openings k) (Lane k) (packed p)) (Record p.mapping) (record_word p k 0)
-
--- the mover's view once k worker's seats are split off
-abbrev pub dealt_out : List Place → ℕ → Doing
-dealt_out openings k = Mover (record { stage = stage.Idle; dealt = k; newest = map (λ (p : Place). p.mapping) openings; made = []; back = [] })
