@@ -13,13 +13,14 @@ use Rattle.ad_maps.specs.Ledger.{reads_of}
 use Rattle.ad_stacks.specs.History as stacks
 use Rattle.ad_turns.specs.Seen as turns
 use Rattle.ad_turns.specs.Seen.{HeldSeen, turn_of}
-use Rattle.ad_turns.specs.Turns.{AddsOne, HaveLengths}
+use Rattle.ad_turns.specs.Turns.{AddsOne, AreRising, HaveLengths}
 use Rattle.ad_wrapper.specs.Asking.{act_of}
 use Rattle.ad_wrapper.specs.Performed.{call_for, Performed}
-use Rattle.ad_wrapper.specs.Private.Stages.{Began, Ended, IsOver, IsUnder, Ran}
+use Rattle.ad_wrapper.specs.Private.Stages.{Began, IsOver, IsUnder, Left, PutBack, Ran}
 use Rattle.ad_wrapper.specs.declared.hands.Hands.{Hands}
 use Rattle.ad_wrapper.specs.declared.hands.Ready.{Ready}
 use Rattle.ad_wrapper.specs.declared.shared.Shared.{Shared}
+use Rattle.ad_wrapper.specs.declared.stages.LeftCall.{LeftCall}
 use Rattle.ad_wrapper.specs.declared.stages.OpenCall.{OpenCall}
 use Rattle.ad_wrapper.proofs.ReadActs.{reads-asked, reads-same, reads-unmaps}
 
@@ -33,7 +34,7 @@ adds-entry i fuel before after call args called = record {
   own = refl;
 }
 
--- a call that ran may end
+-- a call that ran may leave
 pub over : (s : Shared) (step : Ready) (before after : OpenCall) → IsUnder s step before → Ran s step before after → IsOver s after
 over s step before after under ran =
     let held_seat = ap (λ (h : HeldSeen). h.seat) ran.turn in
@@ -58,10 +59,10 @@ regrouped : (before under step after enter list unmaps : List Act)
 regrouped before under step after enter list unmaps began ran ended =
     ended ∙ ap (λ acts. (acts ++ act.Leave ∷ []) ++ unmaps) (ran ∙ ap (λ acts. acts ++ list) began) ∙ simp append_assoc
 
--- a call that began, ran and ended was made
-pub performed : (s : Shared) (step : Ready) (before : Hands) (u v : OpenCall) (after : Hands)
-    → IsUnder s step u → Began before step u → Ran s step u v → Ended v after → Performed s before step after
-performed s step before u v after under began ran ended =
+-- a call that began, ran and left, and whose stack was put back, was made
+pub performed : (s : Shared) (step : Ready) (before : Hands) (u v : OpenCall) (left : LeftCall) (after : Hands)
+    → IsUnder s step u → Began before step u → Ran s step u v → Left v left → PutBack left after → Performed s before step after
+performed s step before u v left after under began ran gone back =
     let place = u.inside.place in
     let stack = u.stack.place in
     let image = ran.image in
@@ -71,13 +72,14 @@ performed s step before u v after under began ran ended =
     λ j. asked_in_call image s.fuel (contents_of (sym untouched j)) (call_for (began.worker j) step place stack) step.args in
     let called-same : after_call image s.fuel (contents_of u.held.book) (call_for u.worker step place stack) step.args ≡ after_call image s.fuel (contents_of v.held.before) (call_for before.worker step place stack) step.args =
     λ j. after_call image s.fuel (contents_of (sym untouched j)) (call_for (began.worker j) step place stack) step.args in
-    let unmaps = map (λ (n : ℕ). act.Unmap n) ended.unmaps.numbers in
+    let unmaps = map (λ (n : ℕ). act.Unmap n) gone.unmaps.numbers in
+    let after-acts = ap (λ k. k.acts) back.seat ∙ gone.unmaps.grew in
     let ran-acts = ran.acts ∙ ap (λ list. u.inside.seat.acts ++ map act_of list) asked-same in
-    let acts = regrouped before.seat.acts u.inside.seat.acts v.inside.seat.acts after.seat.acts (act.Enter ∷ act.Read step.«module» place ∷ []) (map act_of asked) unmaps began.acts ran-acts ended.unmaps.grew in
-    let stack_seat = ended.stack ∙ ap (λ k. k.seat) ran.stack in
+    let acts = regrouped before.seat.acts u.inside.seat.acts v.inside.seat.acts after.seat.acts (act.Enter ∷ act.Read step.«module» place ∷ []) (map act_of asked) unmaps began.acts ran-acts after-acts in
+    let stack_seat = back.stack ∙ ap (λ k. k.seat) (gone.stack ∙ ran.stack) in
     let held_seat = ap (λ (h : HeldSeen). h.seat) ran.turn ∙ began.turn in
-    let same-reads = ap (reads_of step.«module») (ended.unmaps.grew ∙ append_assoc v.inside.seat.acts (act.Leave ∷ []) unmaps)
-    ∙ reads-same step.«module» v.inside.seat.acts (act.Leave ∷ unmaps) (reads-unmaps step.«module» ended.unmaps.numbers)
+    let same-reads = ap (reads_of step.«module») (after-acts ∙ append_assoc v.inside.seat.acts (act.Leave ∷ []) unmaps)
+    ∙ reads-same step.«module» v.inside.seat.acts (act.Leave ∷ unmaps) (reads-unmaps step.«module» gone.unmaps.numbers)
     ∙ ap (reads_of step.«module») ran-acts
     ∙ reads-same step.«module» u.inside.seat.acts (map act_of asked) (reads-asked step.«module» asked) in
     record {
@@ -91,17 +93,17 @@ performed s step before u v after under began ran ended =
       at_module = ap (λ (h : HeldSeen). h.«module») ran.turn ∙ began.at_module;
       position = ap (λ (h : HeldSeen). h.ticket) ran.turn ∙ sym began.entries ∙ ap (λ (b : Book). length b.history.entries) (sym untouched);
       called = ran.called ∙ called-same;
-      unmapped = ended.unmaps.numbers;
-      worker = ended.worker ∙ ran.worker ∙ began.worker;
+      unmapped = gone.unmaps.numbers;
+      worker = back.worker ∙ gone.worker ∙ ran.worker ∙ began.worker;
       seat = λ j. record {
-        table = (ended.table ∙ ran.table ∙ began.table) j;
-        worker = (ended.seat_worker ∙ ran.seat_worker ∙ began.seat_worker) j;
+        table = (ap (λ k. k.table) back.seat ∙ gone.table ∙ ran.table ∙ began.table) j;
+        worker = (ap (λ k. k.worker) back.seat ∙ gone.seat_worker ∙ ran.seat_worker ∙ began.seat_worker) j;
         acts = acts j;
-        at_rest = ended.at_rest j;
+        at_rest = (ap (λ k. k.at_rest) back.seat ∙ gone.at_rest) j;
       };
       stack_seat = stack_seat ∙ began.stack;
-      turn_seat = ended.turn ∙ ap (λ (k : turns.SeatSeen). record k { turns = k.turns ++ turn_of v.held ∷ [] }) held_seat;
+      turn_seat = back.turn ∙ gone.turn ∙ ap (λ (k : turns.SeatSeen). record k { turns = k.turns ++ turn_of v.held ∷ [] }) held_seat;
       reads = subst reads.NeverFall (sym same-reads) began.reads;
       stacks = subst (λ k. stacks.NeverFall k.taken) (sym stack_seat) began.stacks;
-      positions = ended.positions;
+      positions = subst (λ k. AreRising k.turns) (sym back.turn) gone.positions;
     }

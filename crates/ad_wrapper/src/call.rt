@@ -6,7 +6,7 @@ ghost use Rattle.ad_wrapper.specs.Performed.{Performed};
 
 use crate::hands::{Hands, Ready};
 use crate::shared::Shared;
-use crate::stages::{begin, end, run};
+use crate::stages::{begin, leave, put_back, run};
 use ad_base::Gate;
 use std::sync::Wait;
 
@@ -28,5 +28,6 @@ pub fn perform<R: Wait, G: Gate>(
 {
     let under = begin(rt, shared, hands, step, gate);
     let under = run(shared, under, step);
-    end(shared, under, step, gate)
+    let left = leave(shared, under);
+    put_back(shared, left, step, gate)
 }

@@ -1,26 +1,36 @@
-//! The three stages of a call: it begins, it runs, it ends.
+//! The stages of a call, in order: it begins, it runs, it leaves, and its stack is put back.
 
 ghost use Rattle.std.specs.Prelude.{◌≡◌, ◌<◌, length, slice_get, slice_index, IsSomeAnd, Some};
 ghost use Rattle.ad_wrapper.specs.Fits.{AreHandsOf, Fits};
-ghost use Rattle.ad_wrapper.specs.Private.Stages.{Began, Ended, IsOver, IsUnder, Ran};
+ghost use Rattle.ad_wrapper.specs.Private.Stages.{Began, IsOver, IsUnder, Left, PutBack, Ran};
 
 use crate::hands::{Hands, Ready};
 use crate::pinned::Pinned;
 use crate::shared::Shared;
 use ad_base::{Gate, Image, Point};
 use ad_call::{Call, StackBytes, run_call};
-use ad_maps::Inside;
+use ad_maps::{Inside, Seat};
 use ad_stacks::Stack;
-use ad_turns::Held;
+use ad_turns::{Held, TurnSeat};
 use std::sync::Wait;
 
 /// A call that is under way: the worker is inside the module, holds a stack, and has the module's book. It can't be
-/// dropped: it must end.
+/// dropped: it must leave.
 pub(crate) struct OpenCall {
     pub(crate) worker: u64,
     pub(crate) inside: Inside,
     pub(crate) stack: Stack,
     pub(crate) held: Held,
+    pub(crate) bytes: StackBytes,
+}
+
+/// A call that has left: its turn is given on and its worker is inside no module, and the worker still holds the stack.
+/// It can't be dropped: the stack must be put back.
+pub(crate) struct LeftCall {
+    pub(crate) worker: u64,
+    pub(crate) seat: Seat,
+    pub(crate) stack: Stack,
+    pub(crate) turn_seat: TurnSeat,
     pub(crate) bytes: StackBytes,
 }
 
@@ -106,10 +116,10 @@ pub(crate) fn run(shared: &Shared, under: OpenCall, step: &Ready) -> OpenCall
     }
 }
 
-/// Ends a call: gives the book back and the turn on, leaves the module, and puts the stack back.
-pub(crate) fn end<G: Gate>(shared: &Shared, under: OpenCall, step: &Ready, gate: &G) -> Hands
+/// Gives the book back and the turn on, and leaves the module.
+pub(crate) fn leave(shared: &Shared, under: OpenCall) -> LeftCall
     requires { IsOver shared.now under }
-    ensures { Ended under result }
+    ensures { Left under result }
 {
     let OpenCall {
         worker,
@@ -120,6 +130,27 @@ pub(crate) fn end<G: Gate>(shared: &Shared, under: OpenCall, step: &Ready, gate:
     } = under;
     let turn_seat = shared.turns.give(held);
     let seat = shared.maps.leave(inside);
+    LeftCall {
+        worker,
+        seat,
+        stack,
+        turn_seat,
+        bytes,
+    }
+}
+
+/// Puts the stack back, once the call has left: it has ended then.
+pub(crate) fn put_back<G: Gate>(shared: &Shared, left: LeftCall, step: &Ready, gate: &G) -> Hands
+    requires { left.stack.seat.table ≡ shared.now.stacks.table }
+    ensures { PutBack left result }
+{
+    let LeftCall {
+        worker,
+        seat,
+        stack,
+        turn_seat,
+        bytes,
+    } = left;
     let stack_seat = shared.stacks.put(stack);
     gate.pause(worker, step.line, Point::Ended);
     Hands {

@@ -1,4 +1,4 @@
--- The three stages of a call: it begins, it runs, it ends.
+-- The stages of a call, in order: it begins, it runs, it leaves, and its stack is put back.
 use Rattle.std.specs.Prelude.{◌≡◌, ◌+◌, ◌<◌, ◌≤◌, true, [], ◌∷◌, ◌++◌, length, map, slice_get, IsSomeAnd, Some}
 use Rattle.ad_base.specs.declared.image.Image.{Image}
 use Rattle.ad_base.specs.Book.{contents_of}
@@ -18,6 +18,7 @@ use Rattle.ad_wrapper.specs.Performed.{call_for, drawn_once}
 use Rattle.ad_wrapper.specs.declared.hands.Hands.{Hands}
 use Rattle.ad_wrapper.specs.declared.hands.Ready.{Ready}
 use Rattle.ad_wrapper.specs.declared.shared.Shared.{Shared}
+use Rattle.ad_wrapper.specs.declared.stages.LeftCall.{LeftCall}
 use Rattle.ad_wrapper.specs.declared.stages.OpenCall.{OpenCall}
 
 -- The worker is inside the module of its step, holds a stack, and has the module's book, as it was when its turn began, with
@@ -70,13 +71,20 @@ pub record IsOver (s : Shared) (u : OpenCall) : Type 0 where
   pub room : u.held.before.history.room ≤ u.held.book.history.room + 1
   pub lengths : HaveLengths u.held.before u.held.book
 
--- The call ended, and left these hands.
-pub record Ended (u : OpenCall) (after : Hands) : Type 0 where
-  pub worker : after.worker ≡ u.worker
-  pub table : after.seat.table ≡ u.inside.seat.table
-  pub seat_worker : after.seat.worker ≡ u.inside.seat.worker
-  pub unmaps : AddsUnmaps (u.inside.seat.acts ++ act.Leave ∷ []) after.seat.acts
-  pub at_rest : after.seat.at_rest ≡ true
-  pub stack : after.stack_seat ≡ u.stack.seat
-  pub turn : after.turn_seat ≡ record u.held.seat { turns = u.held.seat.turns ++ turn_of u.held ∷ [] }
-  pub positions : AreRising after.turn_seat.turns
+-- The call left: its turn is given on, its worker is inside no module, and it holds its stack as before.
+pub record Left (u : OpenCall) (left : LeftCall) : Type 0 where
+  pub worker : left.worker ≡ u.worker
+  pub table : left.seat.table ≡ u.inside.seat.table
+  pub seat_worker : left.seat.worker ≡ u.inside.seat.worker
+  pub unmaps : AddsUnmaps (u.inside.seat.acts ++ act.Leave ∷ []) left.seat.acts
+  pub at_rest : left.seat.at_rest ≡ true
+  pub stack : left.stack ≡ u.stack
+  pub turn : left.turn_seat ≡ record u.held.seat { turns = u.held.seat.turns ++ turn_of u.held ∷ [] }
+  pub positions : AreRising left.turn_seat.turns
+
+-- The stack of the call that left was put back, and these are the worker's hands.
+pub record PutBack (left : LeftCall) (after : Hands) : Type 0 where
+  pub worker : after.worker ≡ left.worker
+  pub seat : after.seat ≡ left.seat
+  pub stack : after.stack_seat ≡ left.stack.seat
+  pub turn : after.turn_seat ≡ left.turn_seat
