@@ -8,6 +8,7 @@ ghost use Rattle.ad_turns.specs.Merged.{AreOwnTurns, AreReached, HaveAllLengths}
 ghost use Rattle.ad_turns.specs.Seen.{AreAll};
 ghost use Rattle.ad_turns.specs.Private.Handles.{back_of, book_in, turns_in, turns_shown, IsAt, IsGatherer};
 
+use crate::boxed::BoxedBook;
 use crate::table::{Enter, Gather, Seat, TurnTable};
 use crate::turns::{TurnSeat, Turns};
 use ad_base::{Book, OutOfMemory};
@@ -54,7 +55,7 @@ fn gather(table: &TurnTable, gatherer: &mut Seat, seats: Vec<TurnSeat>)
 }
 
 /// Takes the books out of their slots, in order, into the room for them, and gives the table's memory back.
-fn books_of(mut closed: Closed<Option<Book>, Global>, mut books: Vec<Book>) -> Vec<Book>
+fn books_of(mut closed: Closed<Option<BoxedBook>, Global>, mut books: Vec<Book>) -> Vec<Book>
     requires full { IsFull closed.slots }
     requires each { All (λ (slot : Option Book). IsTrue (is_some slot)) (slots_items closed.slots) }
     requires room { slots_len closed.slots ≤ vec_capacity books }
@@ -63,7 +64,7 @@ fn books_of(mut closed: Closed<Option<Book>, Global>, mut books: Vec<Book>) -> V
 {
     for module in 0..closed.slot_count() {
         let book = closed.take(module).unwrap();
-        books.push_reserved(book);
+        books.push_reserved(book.into_book());
     }
     closed.free();
     books

@@ -1,6 +1,7 @@
 //! The turns of the workers at the books of the modules, on a table of atomic words that threads share.
 #![tactic(auto)]
 
+mod boxed;
 mod close;
 mod counts;
 mod laws;

@@ -8,6 +8,7 @@ ghost use Rattle.ad_turns.specs.Turns.{draws_of};
 ghost use Rattle.ad_turns.specs.Seen.{AreNew};
 ghost use Rattle.ad_turns.specs.Private.Handles.{some_book, IsAt};
 
+use crate::boxed::BoxedBook;
 use crate::counts::Counts;
 use crate::table::{Deal, Opening, Seat, TurnTable};
 use crate::turns::{TurnSeat, Turns};
@@ -92,13 +93,13 @@ fn do_fit(calls: &[Counts], modules: usize) -> bool
     true
 }
 
-/// A slot for each book, with the book in it.
-fn slots_of(alloc: Global, books: Vec<Book>) -> Result<Vec<Option<Book>>, OutOfMemory>
+/// A slot for each book, with the book in it, in memory of its own.
+fn slots_of(alloc: Global, books: Vec<Book>) -> Result<Vec<Option<BoxedBook>>, OutOfMemory>
     ensures { IfOk result (λ slots. slots.items ≡ map some_book books.items) }
 {
     let mut slots = Vec::with_capacity(alloc, books.len())?;
     for book in books {
-        slots.push(Some(book))?;
+        slots.push(Some(BoxedBook::new(alloc, book)?))?;
     }
     Ok(slots)
 }

@@ -9,6 +9,7 @@ ghost use Rattle.ad_turns.specs.Turns.{AreRising};
 ghost use Rattle.ad_turns.specs.Steps.{after_draw, after_note, staged, turns_of_view, Has, IsServed};
 ghost use Rattle.ad_turns.specs.Private.Handles.{held_by, left_of, worker_of, IsAt, IsDoing};
 
+use crate::boxed::BoxedBook;
 use crate::table::{Draw, Look, Note, Noted, Opened, Pass, Seat, TurnTable};
 use crate::words::BOOKS;
 use ad_base::Book;
@@ -68,7 +69,7 @@ pub(crate) fn await_turn<R: Wait>(
 }
 
 /// Takes the book out of the slot that the seat has.
-pub(crate) fn take_out(table: &TurnTable, seat: &mut Seat, module: u64) -> Book
+pub(crate) fn take_out(table: &TurnTable, seat: &mut Seat, module: u64) -> BoxedBook
     requires at { IsAt table.now.shared.table_id seat.old.table_id }
     requires slot { seat.old.me.1 ≡ («module», Some (held_by seat.old.me.0)) ∷ [] }
     ensures at { seat.new.table_id ≡ seat.old.table_id }
@@ -102,7 +103,7 @@ pub(crate) fn note<N: Noted>(
 }
 
 /// Puts the book back into the slot that the seat has.
-pub(crate) fn put_back(table: &TurnTable, seat: &mut Seat, module: u64, book: Book)
+pub(crate) fn put_back(table: &TurnTable, seat: &mut Seat, module: u64, book: BoxedBook)
     requires at { IsAt table.now.shared.table_id seat.old.table_id }
     requires slot { seat.old.me.1 ≡ («module», None) ∷ [] }
     ensures at { seat.new.table_id ≡ seat.old.table_id }

@@ -1,5 +1,6 @@
 //! The table over atomic words: its rule, and what each kind of step tells its seat.
 
+use crate::boxed::BoxedBook;
 use crate::counts::Counts;
 use crate::view::Doing;
 use ad_base::Book;
@@ -19,7 +20,7 @@ pub struct Opening {
 /// opened with.
 pub struct TurnRule;
 
-impl TableRule<Option<Book>, Doing, Opening> for TurnRule {
+impl TableRule<Option<BoxedBook>, Doing, Opening> for TurnRule {
     ghost use Rattle.ad_turns.specs.Rule.{Kept};
     ghost use Rattle.ad_turns.specs.declared.view.Doing.TheVariants.{Dealer};
 
@@ -28,14 +29,14 @@ impl TableRule<Option<Book>, Doing, Opening> for TurnRule {
     ghost first = { λ key. Dealer 0 key.calls.value.items };
 }
 
-pub(crate) type TurnTable = Table<Option<Book>, Doing, Opening, TurnRule, Global>;
+pub(crate) type TurnTable = Table<Option<BoxedBook>, Doing, Opening, TurnRule, Global>;
 
-pub(crate) type Seat = atomic_table::Seat<Option<Book>, Doing>;
+pub(crate) type Seat = atomic_table::Seat<Option<BoxedBook>, Doing>;
 
 /// A worker draws a ticket of the module whose word it steps on.
 pub(crate) struct Draw;
 
-impl Play<Option<Book>, Doing> for Draw {
+impl Play<Option<BoxedBook>, Doing> for Draw {
     ghost use Rattle.ad_turns.specs.Steps.{Draws};
 
     ghost then = { Draws };
@@ -60,7 +61,7 @@ pub(crate) struct Look<N> {
     opened: PhantomData<N>,
 }
 
-impl<N: Opened> Play<Option<Book>, Doing> for Look<N> {
+impl<N: Opened> Play<Option<BoxedBook>, Doing> for Look<N> {
     ghost use Rattle.ad_turns.specs.Steps.{Looks};
 
     ghost then = { Looks N.openings };
@@ -84,7 +85,7 @@ pub(crate) struct Note<N> {
     noted: PhantomData<N>,
 }
 
-impl<N: Noted> Play<Option<Book>, Doing> for Note<N> {
+impl<N: Noted> Play<Option<BoxedBook>, Doing> for Note<N> {
     ghost use Rattle.ad_turns.specs.Steps.{Notes};
 
     ghost then = { Notes N.after };
@@ -93,7 +94,7 @@ impl<N: Noted> Play<Option<Book>, Doing> for Note<N> {
 /// A worker passes the module on, and gives back the slot.
 pub(crate) struct Pass;
 
-impl Play<Option<Book>, Doing> for Pass {
+impl Play<Option<BoxedBook>, Doing> for Pass {
     ghost use Rattle.ad_turns.specs.Steps.{Passes};
 
     ghost then = { Passes };
@@ -113,7 +114,7 @@ impl Split<Doing> for Deal {
 /// A seat that is to join the workers' seats is made.
 pub(crate) struct Enter;
 
-impl Play<Option<Book>, Doing> for Enter {
+impl Play<Option<BoxedBook>, Doing> for Enter {
     ghost use Rattle.ad_turns.specs.Steps.{Enters};
 
     ghost then = { Enters };

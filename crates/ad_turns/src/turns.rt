@@ -4,6 +4,7 @@ ghost use Rattle.std.specs.Prelude.{◌≡◌, ◌+◌, ◌-◌, ◌<◌, ◌≤
 ghost use Rattle.ad_turns.specs.Turns.{AddsOne, AreRising, HaveLengths};
 ghost use Rattle.ad_turns.specs.Seen.{turn_of};
 
+use crate::boxed::BoxedBook;
 use crate::counts::Counts;
 use crate::steps;
 use crate::table::{Seat, TurnTable};
@@ -86,7 +87,7 @@ pub struct Held {
     left: Counts,
     module: u64,
     number: u64,
-    book: Book,
+    book: BoxedBook,
 }
 
 impl Model for Held {
@@ -123,7 +124,7 @@ impl Held {
         ensures* writes_back { sem 𝓛 (LendsBook self.entry result) }
         ensures value { result.now ≡ self.old.book }
     {
-        &mut self.book
+        self.book.as_mut()
     }
 }
 
@@ -202,7 +203,7 @@ impl Turns {
             number,
             book,
         } = held;
-        steps::note::<Brand>(&self.table, &mut seat, module, number, &book);
+        steps::note::<Brand>(&self.table, &mut seat, module, number, book.as_book());
         steps::put_back(&self.table, &mut seat, module, book);
         steps::pass(&self.table, &mut seat, module, number);
         TurnSeat { seat, worker, left }

@@ -32,6 +32,6 @@ loop-module-preserved c =
       taken = λ k l. ap (λ (bs : List Bool). get_or bs k false) now ∙ either_way k n
           (λ e. ap (λ (j : ℕ). get_or (slice_set filled n false) j false) e ∙ get_or-set_same filled n false false inside)
           (λ ne. get_or-set_other filled n k false false ne ∙ i.taken k (omega arith));
-      books = c.push_reserved.ensures.items ∙ (ap (λ (b : Book). c.loop-module.books.items ++ b ∷ []) (ap book_in (sym c.unwrap-book.ensures)) ∙ books_more (slots_items c.args.closed.slots) n c.take.result c.loop-module.books.items i.books at);
+      books = c.push_reserved.ensures.items ∙ (ap (λ (b : Book). c.loop-module.books.items ++ b ∷ []) (c.into_book.ensures ∙ ap book_in (sym c.unwrap-book.ensures)) ∙ books_more (slots_items c.args.closed.slots) n c.take.result c.loop-module.books.items i.books at);
       room = let a = i.room in let b = c.push_reserved.ensures.capacity in omega arith;
     }
