@@ -2,3 +2,4 @@ pub mod Drawing
 pub mod Lines
 pub mod Requests
 pub mod Rooms
+pub mod Worked

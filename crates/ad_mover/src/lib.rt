@@ -6,5 +6,5 @@ mod move_line;
 mod mover;
 mod stack_line;
 
-pub use laws::law_requests;
+pub use laws::{law_requests, law_worked_moves};
 pub use mover::{Mover, run_moves};
