@@ -5,7 +5,7 @@ ghost use Rattle.ad_base.specs.declared.layout.TheConstants.{MAPPINGS, PART_PAGE
 ghost use Rattle.ad_base.specs.declared.ledger.Kind.TheVariants as kinds;
 ghost use Rattle.ad_base.specs.Image.{movable_pages};
 ghost use Rattle.ad_maps.specs.declared.view.Deed.TheVariants as deed;
-ghost use Rattle.ad_maps.specs.declared.words.TheConstants.{LINES};
+ghost use Rattle.ad_maps.specs.declared.words.TheConstants.{LINES, MEMBERS};
 ghost use Rattle.ad_maps.specs.MapPlace.{opening_of};
 ghost use Rattle.ad_mover.specs.Moves.{MovesLine, MovesModules};
 ghost use Rattle.ad_mover.specs.Seen.{moving, HasDrawn, IsMoverOf};
@@ -32,7 +32,7 @@ pub(crate) fn move_line<G: Gate>(
     requires fits { Fits shared.now }
     requires mover { IsMoverOf shared.now mover.old }
     requires outs { mover.old.outs.items ≡ [] }
-    requires outs_room { 8 ≤ vec_capacity mover.old.outs }
+    requires outs_room { MEMBERS ≤ vec_capacity mover.old.outs }
     requires done { length mover.old.done.items + length modules.now ≤ vec_capacity mover.old.done }
     requires modules { All (λ m. m < length shared.now.images) modules.now }
     requires some_line { 1 ≤ line }
@@ -59,13 +59,13 @@ fn move_modules(shared: &Shared, mover: &mut Mover, line: u64, modules: &Members
     requires seats { HasSeats shared.now mover.old }
     requires drawn { HasDrawn shared.now.maps.shape shared.now.stacks.openings (moving mover.old) }
     requires outs { mover.old.outs.items ≡ [] }
-    requires outs_room { 8 ≤ vec_capacity mover.old.outs }
+    requires outs_room { MEMBERS ≤ vec_capacity mover.old.outs }
     requires done { length mover.old.done.items + length modules.now ≤ vec_capacity mover.old.done }
     requires modules { All (λ m. m < length shared.now.images) modules.now }
     ensures moved { MovesModules shared.now.maps.shape line modules.now (moving mover.old) (retires_of line mover.new.outs.items) (moving mover.new) }
     ensures seats { HasSeats shared.now mover.new }
     ensures drawn { HasDrawn shared.now.maps.shape shared.now.stacks.openings (moving mover.new) }
-    ensures few { length mover.new.outs.items ≤ 8 }
+    ensures few { length mover.new.outs.items ≤ MEMBERS }
     ensures done { length mover.new.done.items ≡ length mover.old.done.items + length modules.now }
     ensures room { KeepsRoom mover.old mover.new }
 {

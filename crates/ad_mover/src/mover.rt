@@ -1,6 +1,7 @@
 //! The mover of a run.
 
 ghost use Rattle.std.specs.Prelude.{◌≡◌, ◌+◌, ◌≤◌, [], length, All, sum_by, vec_capacity};
+ghost use Rattle.ad_maps.specs.declared.words.TheConstants.{MEMBERS};
 ghost use Rattle.ad_mover.specs.Moves.{MakesStep, MakesSteps};
 ghost use Rattle.ad_mover.specs.Seen.{moves_of, moving, IsMoverOf, MayBeMade};
 ghost use Rattle.ad_mover.specs.Private.Lines.{KeepsRoom};
@@ -23,7 +24,7 @@ pub struct Mover {
     pub placer: Placer,
     pub seat: MoverSeat,
     pub stack_mover: StackMover,
-    /// The room for what goes out in one line: 8 mappings.
+    /// The room for what goes out in one line: `ad_maps::MEMBERS` mappings.
     pub outs: Vec<Out>,
     /// What came of the moves so far, and the room for the others.
     pub done: Vec<Moved>,
@@ -37,7 +38,7 @@ pub fn run_moves<G: Gate>(shared: &Shared, mover: Mover, steps: &[Step], gate: &
     requires fits { Fits shared.now }
     requires mover { IsMoverOf shared.now mover }
     requires outs { mover.outs.items ≡ [] }
-    requires outs_room { 8 ≤ vec_capacity mover.outs }
+    requires outs_room { MEMBERS ≤ vec_capacity mover.outs }
     requires done { length mover.done.items + sum_by moves_of steps.now ≤ vec_capacity mover.done }
     requires steps { All (MayBeMade (length shared.now.images) mover.stack_mover.lanes) steps.now }
     ensures made { MakesSteps shared.now.maps.shape steps.now (moving mover) (moving result) }
@@ -61,7 +62,7 @@ fn make_step<G: Gate>(shared: &Shared, mover: &mut Mover, step: &Step, gate: &G)
     requires fits { Fits shared.now }
     requires mover { IsMoverOf shared.now mover.old }
     requires outs { mover.old.outs.items ≡ [] }
-    requires outs_room { 8 ≤ vec_capacity mover.old.outs }
+    requires outs_room { MEMBERS ≤ vec_capacity mover.old.outs }
     requires done { length mover.old.done.items + moves_of step.now ≤ vec_capacity mover.old.done }
     requires step { MayBeMade (length shared.now.images) mover.old.stack_mover.lanes step.now }
     ensures made { MakesStep shared.now.maps.shape step.now (moving mover.old) (moving mover.new) }
