@@ -7,13 +7,8 @@ use Rattle.ad_script.specs.declared.script.Step.{Step}
 use Rattle.ad_script.specs.declared.script.Step.TheVariants as steps
 
 -- what is moved: in which line, and what of whom
-pub record MoveRequest : Type 0 where
-  pub line : ℕ
-  pub kind : Kind
-  pub who : ℕ
-
-abbrev pub request : ℕ → Kind → ℕ → MoveRequest
-request line kind who = record { line = line; kind = kind; who = who }
+abbrev pub request : ℕ → Kind → ℕ → ℕ × Kind × ℕ
+request line kind who = (line, kind, who)
 
 -- what was moved, whatever came of it; and what a step moves, in order, which is nothing for a call. Both are told by a function of
 -- the line, of what is moved and of whose it is.
