@@ -33,7 +33,7 @@ use Rattle.ad_lines.proofs.Elements.{all-back, all-front, all-read, pairs-head, 
 use Rattle.ad_lines.proofs.StepCases.{call-is, call-keeps, call_at, called, fresh-keeps, move-keeps}
 
 -- one more turn behind the others
-turns-push : (image : Image) (fuel : ℕ) (before : Contents) (es : List Entry) (next : Contents) (e : Entry) (after : Contents) → AreTurns image fuel before es next → IsTurn image fuel next e after → AreTurns image fuel before (es ++ e ∷ []) after
+pub turns-push : (image : Image) (fuel : ℕ) (before : Contents) (es : List Entry) (next : Contents) (e : Entry) (after : Contents) → AreTurns image fuel before es next → IsTurn image fuel next e after → AreTurns image fuel before (es ++ e ∷ []) after
 turns-push image fuel before [] next e after h t = (after, subst (λ b. IsTurn image fuel b e after) (sym h) t, refl)
 turns-push image fuel before (x ∷ xs) next e after h t = (h.0, h.1, turns-push image fuel h.0 xs next e after h.2 t)
 

@@ -20,6 +20,7 @@ pub mod Rows
 pub mod StepCases
 pub mod RunKeeps
 pub mod SoundRuns
+pub mod Traps
 pub mod Stale
 pub mod Steps
 pub mod RunLaws

@@ -1,37 +1,34 @@
 -- Addresses whose mapping was unmapped: no later mapping has them, and no call finds anything there.
-use Rattle.std.proofs.Common.{◌≡◌, ℕ, ◌*◌, ◌/◌, ◌%◌, ◌<◌, ◌≤◌, false, ◌==◌, List, ◌++◌, length, slice_get, Some, None, Err, inl, inr, refl, sym, ap, subst, ◌∙◌, arith}
-use Rattle.std.specs.Prelude.{if◌then◌else◌}
+use Rattle.std.proofs.Common.{◌≡◌, ℕ, ◌*◌, ◌/◌, ◌<◌, ◌≤◌, List, ◌++◌, length, slice_get, Some, None, inl, inr, sym, ap, subst, ◌∙◌, arith}
 use Rattle.std.specs.List.{All}
-use Rattle.std.proofs.lemmas.Bool.{cases_lt, cond_both}
-use Rattle.std.proofs.lemmas.Bool.Decides.{eqb_tells, nat_tests}
+use Rattle.std.proofs.lemmas.Bool.{cases_lt}
 use Rattle.std.proofs.lemmas.List.Sums.{fold-append}
 use Rattle.std.proofs.lemmas.Option.{get_or_from_slice_get, slice_get_within}
 use Rattle.ad_base.specs.declared.image.Image.{Image}
-use Rattle.ad_base.specs.declared.layout.TheConstants.{FETCH_BYTES, GATE, PAGE_BYTES, REGION_BYTES, STACK_PAGES}
+use Rattle.ad_base.specs.declared.layout.TheConstants.{PAGE_BYTES, REGION_BYTES, STACK_PAGES}
 use Rattle.ad_base.specs.declared.ledger.Kind.{Kind}
 use Rattle.ad_base.specs.declared.ledger.Kind.TheVariants as kinds
 use Rattle.ad_base.specs.declared.ledger.Row.{Row}
 use Rattle.ad_base.specs.declared.place.Place.{Place}
 use Rattle.ad_base.specs.Ledger.{Mapping}
 use Rattle.ad_base.specs.Place.{IsInside, IsPlace, base_of}
-use Rattle.ad_base.specs.declared.end.End.TheVariants as ends
-use Rattle.ad_base.specs.Segments.{Fetch, Segment, Use, extents, holding, in_region_1, reach, service_number, with_right}
+use Rattle.ad_base.specs.Segments.{Segment, extents, holding}
 use Rattle.ad_base.proofs.Extents.{holding-none}
 use Rattle.ad_call.specs.Call.{HasData}
 use Rattle.ad_call.proofs.Outside.{nothing-outside}
-use Rattle.ad_core.specs.declared.bus.Fetched.TheVariants.{Fault, Gate}
 use Rattle.ad_core.specs.Image.{segments_of}
-use Rattle.ad_core.specs.Memory.{fetched, service_or, word_of}
 use Rattle.ad_core.proofs.Stay.{led}
 use Rattle.ad_lines.specs.declared.ready.ReadyStep.{ReadyStep}
 use Rattle.ad_lines.specs.LineRun.{ModuleState, Placement, after_step, line_run}
 use Rattle.ad_lines.specs.Opening.{AreLoaded, opening_drawn, opening_mappings, opening_run}
 use Rattle.ad_lines.specs.LineLaws.{AreSteps, InEachMemory, IsFaultAtEachStep, line_of, run_of_seed}
+use Rattle.ad_lines.specs.Traps.{EndsInTrapAt}
 use Rattle.ad_lines.proofs.Elements.{all-back, all-front}
 use Rattle.ad_lines.proofs.ListReads.{Each, all-each, each-all}
 use Rattle.ad_lines.proofs.MoveRuns.{IsCurrent, IsSoundPlacement, grows-refl, place-at}
 use Rattle.ad_lines.proofs.OpenRuns.{run-opens}
 use Rattle.ad_lines.proofs.SoundRuns.{IsGrown, IsPlacedModule, IsPlacedStack, IsSoundState, grown-run}
+use Rattle.ad_lines.proofs.Traps.{ends-at, fault-reached, fault-there}
 
 -- the mappings before the first line
 abbrev opening_of : ℕ → ℕ → List Image → List Mapping
@@ -78,32 +75,12 @@ holds-none : (rows : List Row) (number worker at : ℕ) (m : ModuleState) (stack
 holds-none rows number worker at m stack bytes fixed_data writable full long is on movable fixed stack_out =
     nothing-outside m.image m.movable stack at bytes fixed_data writable is.whole full long is.pages on.pages stack_out fixed movable
 
--- an address behind region 1 is no service's
-no-service : (at : ℕ) → 2 * REGION_BYTES < at → service_number at ≡ None
-no-service at high = grind (arith, nat_tests)
-
--- and each access where nothing lies, behind region 1, is a fault
-fault-reached : (at : ℕ) (memory : List (Segment ℕ)) → holding memory at ≡ None → (wanted : Use) (size : ℕ) → at % size ≡ 0 → reach wanted size memory at ≡ Err ends.Fault
-fault-reached at memory none wanted size aligned =
-    cond_both (at % size == 0) _ _ (λ x. x ≡ Err ends.Fault)
-    (λ e. cond_both (in_region_1 at) _ _ (λ x. x ≡ Err ends.Fault) (λ f. refl) (λ f. ap (with_right wanted) none))
-    (λ odd. absurd (grind (arith, nat_tests)))
-
-fault-there : (at : ℕ) (memory : List (Segment ℕ)) → holding memory at ≡ None → 2 * REGION_BYTES < at → fetched memory at ≡ Fault
-unfolding fetched
-fault-there at memory none high =
-    let gate : (at == GATE) ≡ false = elim (eqb_tells at GATE) [ inl e ↦ absurd (omega (arith, e.1, high)) | inr e ↦ e.0 ] in
-    (λ j. if gate j then Gate else service_or (no-service at high j) (word_of at (reach Fetch FETCH_BYTES memory at)))
-    ∙ cond_both (at % FETCH_BYTES == 0) (if in_region_1 at then Err ends.Fault else with_right Fetch (holding memory at)) (Err ends.Misaligned) (λ x. word_of at x ≡ Fault)
-    (λ e. cond_both (in_region_1 at) (Err ends.Fault) (with_right Fetch (holding memory at)) (λ x. word_of at x ≡ Fault) (λ f. refl) (λ f. ap (λ x. word_of at (with_right Fetch x)) none))
-    (λ odd. refl)
-
 -- so it is after steps, which leave each segment where it is
 pub fault-at-steps : (at : ℕ) (segments : List (Segment ℕ)) → holding segments at ≡ None → 2 * REGION_BYTES < at → IsFaultAtEachStep at segments
 fault-at-steps at segments none high steps first later before after same leads =
     let stay = led steps first later before after leads ∙ ap extents same in
     let nothing = holding-none at after.memory.segments segments stay none in
-    (λ aligned. fault-there at after.memory.segments nothing high, fault-reached at after.memory.segments nothing)
+    (λ aligned. fault-there at after.memory.segments (λ even. nothing) high, fault-reached at after.memory.segments nothing)
 
 module _ (seed workers fuel : ℕ) (images : List Image) (loaded : AreLoaded seed workers images) where
   pub grown-from : (steps : List ReadyStep) → All (λ s. 1 ≤ line_of s) steps → IsGrown (opening_mappings workers images (opening_drawn seed workers images).places) (opening_run workers images (opening_drawn seed workers images)).placement.rows (run_of_seed seed workers images fuel steps)
@@ -141,14 +118,16 @@ module _ (seed workers fuel : ℕ) (images : List Image) (loaded : AreLoaded see
     pub stale-apart : All (λ (r : Row). r.unmaps ≡ 0 → IsInside r.place at → ⊥) (run_of_seed seed workers images fuel (before ++ after)).placement.rows
     stale-apart = all-each (λ (r : Row). r.unmaps ≡ 0 → IsInside r.place at → ⊥) (run_of_seed seed workers images fuel (before ++ after)).placement.rows stale
 
-    high : 2 * REGION_BYTES < at
-    high =
+    -- the mapping that was unmapped lay at a place
+    pub gone-place : IsPlace gone.place
+    gone-place =
         let g = grown-on before after are in
         let x = g.grows.each old gone there in
         let p = (run_of_seed seed workers images fuel (before ++ after)).placement in
-        let is = g.sound.sound.are old x.0.place (place-at (opening_of seed workers images) p g.sound.sound old x.0 x.1) in
-        let from : base_of x.0.place ≤ at = subst (λ (q : Place). base_of q ≤ at) (sym x.2) inside.from in
-        omega (arith, is.region_from, is.page_before, from)
+        subst IsPlace x.2 (g.sound.sound.are old x.0.place (place-at (opening_of seed workers images) p g.sound.sound old x.0 x.1))
+
+    high : 2 * REGION_BYTES < at
+    high = let is = gone-place in let from : base_of gone.place ≤ at = inside.from in omega (arith, is.region_from, is.page_before, from)
 
     none-lies : (kind : Kind) (who : ℕ) (x : Place) → IsCurrent (run_of_seed seed workers images fuel (before ++ after)).placement.rows kind who x → IsInside x at → ⊥
     none-lies = none-now (opening_of seed workers images) (run_of_seed seed workers images fuel (before ++ after)).placement (grown-on before after are).sound.sound at stale
@@ -169,3 +148,13 @@ module _ (seed workers fuel : ℕ) (images : List Image) (loaded : AreLoaded see
         all-each (λ (m : ModuleState). All (λ stack. InEachMemory m.image m.movable stack (IsFaultAtEachStep at)) s.stacks) s.modules (λ n m e.
         all-each (λ stack. InEachMemory m.image m.movable stack (IsFaultAtEachStep at)) s.stacks (λ k stack f bytes fixed writable full long.
         fault-at-steps at (segments_of m.image m.movable stack bytes fixed writable) (each-all (λ q. InEachMemory m.image m.movable q (λ memory. holding memory at ≡ None)) s.stacks (each-all (λ (x : ModuleState). All (λ q. InEachMemory x.image x.movable q (λ memory. holding memory at ≡ None)) s.stacks) s.modules stale-nothing n m e) k stack f bytes fixed writable full long) high))
+
+  module _ (before after : List ReadyStep) (are : AreSteps images workers (before ++ after)) (old : ℕ) (gone : Row) (there : slice_get (run_of_seed seed workers images fuel before).placement.rows old ≡ Some gone) (unmapped : 0 < gone.unmaps) where
+    pub stale-ends : (at : ℕ) → IsInside gone.place at → All (λ (m : ModuleState). All (λ stack. InEachMemory m.image m.movable stack (EndsInTrapAt at)) (run_of_seed seed workers images fuel (before ++ after)).stacks) (run_of_seed seed workers images fuel (before ++ after)).modules
+    stale-ends at inside =
+        let s = run_of_seed seed workers images fuel (before ++ after) in
+        let nothing = stale-nothing before after are old gone in
+        all-each (λ (m : ModuleState). All (λ stack. InEachMemory m.image m.movable stack (EndsInTrapAt at)) s.stacks) s.modules (λ n m e.
+        all-each (λ stack. InEachMemory m.image m.movable stack (EndsInTrapAt at)) s.stacks (λ k stack f bytes fixed writable full long.
+        ends-at gone.place at (gone-place before after are old gone at there unmapped inside) inside (segments_of m.image m.movable stack bytes fixed writable) (λ from within.
+        each-all (λ q. InEachMemory m.image m.movable q (λ memory. holding memory from ≡ None)) s.stacks (each-all (λ (x : ModuleState). All (λ q. InEachMemory x.image x.movable q (λ memory. holding memory from ≡ None)) s.stacks) s.modules (nothing from there unmapped within) n m e) k stack f bytes fixed writable full long)))

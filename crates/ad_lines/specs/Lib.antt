@@ -3,5 +3,7 @@ pub mod LineRun
 pub mod Opening
 pub mod Room
 pub mod LineLaws
+pub mod Traps
+pub mod Examples
 pub mod Sound
 pub mod Private

@@ -12,7 +12,7 @@ mod tests;
 
 pub use book_laws::{law_books, law_clear_replies};
 pub use line_run::{Finished, LineRun};
-pub use mapping_laws::{law_ledger, law_moves, law_stale_addresses};
+pub use mapping_laws::{law_ledger, law_moves, law_stale_addresses, law_worked_trap};
 pub use mappings::opening_places;
 pub use ready::{Missing, ReadyStep, ready_steps};
 pub use room::{calls_of, moves_of, open_book};

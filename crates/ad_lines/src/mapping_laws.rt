@@ -1,6 +1,6 @@
 //! Laws of the moves and mappings of a line run. Each function makes no call: its contract is the law.
 
-ghost use Rattle.std.specs.Prelude.{◌≡◌, ◌≤◌, ◌<◌, ◌+◌, ◌*◌, ℕ, List, ◌++◌, length, map, slice_get, None, Some, All};
+ghost use Rattle.std.specs.Prelude.{◌≡◌, ◌⊎◌, ◌↔◌, ◌≤◌, ◌<◌, ◌+◌, ◌*◌, ℕ, List, [], ◌∷◌, ◌++◌, length, map, slice_get, None, Some, All};
 ghost use Rattle.std.specs.List.{flat_map};
 ghost use Rattle.std.specs.List.Sorted.{IsNonDecreasingBy};
 ghost use Rattle.ad_base.specs.declared.image.Image.{Image};
@@ -11,13 +11,16 @@ ghost use Rattle.ad_base.specs.Ledger.{IsLedger, IsUnmappedOnce, made_mappings};
 ghost use Rattle.ad_base.specs.Place.{IsInside};
 ghost use Rattle.ad_call.specs.Call.{HasData};
 ghost use Rattle.ad_base.specs.Segments.{holding};
+ghost use Rattle.ad_core.specs.Examples.{data_call};
 ghost use Rattle.ad_place.specs.Choice.{places_of};
 ghost use Rattle.ad_lines.specs.declared.ready.ReadyStep.{ReadyStep};
+ghost use Rattle.ad_lines.specs.Examples.{before_load, loading, loading_words};
 ghost use Rattle.ad_lines.specs.LineRun.{ModuleState};
 ghost use Rattle.ad_lines.specs.Opening.{AreLoaded, drawn_for, opening_drawn, opening_mappings, opening_requests, opening_run};
 ghost use Rattle.ad_lines.specs.LineLaws.{AreMoveEnds, AreSteps, InEachMemory, IsFaultAtEachStep, last_place, move_requests, move_request, draw_of, run_of_seed};
+ghost use Rattle.ad_lines.specs.Traps.{EndsInTrapAt, IsAmong, Touches};
 
-use ad_base::MAPPINGS;
+use ad_base::{End, MAPPINGS};
 
 /// The moves of a line run are those of its steps, in order. The places that were drawn are the next ones that the seed
 /// chooses, for the pages of what is placed: the opening, and then what each move that is made moves. That the mappings
@@ -73,7 +76,8 @@ pub fn law_ledger()
 
 /// An address that leaked is stale once its mapping is unmapped: from then on it lies in no mapping of the run. In any
 /// later call of any module on any stack nothing lies there, and at each step of the call a fetch, a load or a store
-/// there is a fault, whatever bytes the stack and the data hold. The data have as many bytes as those of the image.
+/// there is a fault, whatever bytes the stack and the data hold. A step that fetches, loads or stores there ends the call
+/// in a fault, or where it isn't aligned in misaligned. The data have as many bytes as those of the image.
 pub fn law_stale_addresses()
     ensures apart { (seed workers fuel : ℕ) (images : List Image) (before after : List ReadyStep)
         → AreLoaded seed workers images → AreSteps images workers (before ++ after)
@@ -95,4 +99,21 @@ pub fn law_stale_addresses()
         → 0 < gone.unmaps → IsInside gone.place at
         → All (λ (m : ModuleState). All (λ stack. InEachMemory m.image m.movable stack (IsFaultAtEachStep at))
         (run_of_seed seed workers images fuel (before ++ after)).stacks) (run_of_seed seed workers images fuel (before ++ after)).modules }
+    ensures ends { (seed workers fuel : ℕ) (images : List Image) (before after : List ReadyStep)
+        → AreLoaded seed workers images → AreSteps images workers (before ++ after)
+        → (old : ℕ) (gone : Row) (at : ℕ) → slice_get (run_of_seed seed workers images fuel before).placement.rows old ≡ Some gone
+        → 0 < gone.unmaps → IsInside gone.place at
+        → All (λ (m : ModuleState). All (λ stack. InEachMemory m.image m.movable stack (EndsInTrapAt at))
+        (run_of_seed seed workers images fuel (before ++ after)).stacks) (run_of_seed seed workers images fuel (before ++ after)).modules }
+{}
+
+/// A call that loads four bytes at the address that a0 holds, by its first word of code, at 0x100000. Data lie at 0x200000, and
+/// nothing in the second page of region 12, which begins at 0x301000.
+pub fn law_worked_trap()
+    ensures touches { (at : ℕ) → Touches at (before_load 0x301000) loading ↔ (IsAmong 0x100000 4 at ⊎ IsAmong 0x301000 4 at) }
+    ensures nothing_there { EndsInTrapAt 0x301000 loading.memory.segments }
+    ensures data_there { EndsInTrapAt 0x200000 loading.memory.segments → ⊥ }
+    ensures fault { (data_call (0x301000 ∷ []) loading_words).end ≡ End.Fault }
+    ensures misaligned { (data_call (0x301002 ∷ []) loading_words).end ≡ End.Misaligned }
+    ensures no_trap { (data_call (0x200000 ∷ []) loading_words).end ≡ End.Returned 0x04030201 }
 {}
