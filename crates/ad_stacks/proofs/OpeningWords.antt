@@ -1,5 +1,5 @@
 -- The words that the table is opened with.
-use Rattle.std.proofs.Common.{◌≡◌, ◌≢◌, ◌⊎◌, inl, inr, ℕ, zero, suc, eq-eqb, ne_eqb, ◌+◌, ◌-◌, ◌<◌, ◌≤◌, List, ◌++◌, map, length, length-append, get_or, Option, Some, sym, refl, ap, ◌∙◌, subst, arith}
+use Rattle.std.proofs.Common.{◌≡◌, ◌≢◌, ◌⊎◌, inl, inr, ℕ, zero, suc, eq-eqb, ne_eqb, ◌+◌, ◌-◌, ◌<◌, ◌≤◌, List, ◌++◌, append_assoc, map, length, length-append, get_or, Option, Some, sym, refl, ap, ◌∙◌, subst, arith}
 use Rattle.std.specs.List.{AllPairs, enumerate_from, position_or_len, range_with_len, slice_get}
 use Rattle.std.specs.Option.{option_map_or}
 use Rattle.std.proofs.Math.Seq.{get_or-append_right}
@@ -30,7 +30,7 @@ past_area f n i j rest e =
 
 pub in_order_are : (ws : Words) → AreWords (in_order ws) ws
 unfolding in_order
-in_order_are ws = (long, by_name)
+in_order_are ws = subst (λ (xs : List ℕ). AreWords xs ws) (sym (append_assoc lanes records marks)) (long, by_name)
   where
     lanes : List ℕ
     lanes = map ws.lane (range_with_len 0 64)
@@ -41,14 +41,14 @@ in_order_are ws = (long, by_name)
     marks : List ℕ
     marks = map ws.mark (range_with_len 0 4096)
 
-    long : length (in_order ws) ≡ 8256
+    long : length (lanes ++ (records ++ marks)) ≡ 8256
     long =
         let a = length-map-range_with_len ws.lane 0 64 in
         let b = length-map-range_with_len ws.recorded 0 4096 in
         let c = length-map-range_with_len ws.mark 0 4096 in
         omega (arith, length-append lanes (records ++ marks), length-append records marks)
 
-    by_name : (n : Name) → IsName n → get_or (in_order ws) (index n) 0 ≡ read ws n
+    by_name : (n : Name) → IsName n → get_or (lanes ++ (records ++ marks)) (index n) 0 ≡ read ws n
     by_name (Lane w) l = area ws.lane 64 w (records ++ marks) l
     by_name (Record m) l = past_area ws.lane 64 m (64 + m) (records ++ marks) refl ∙ area ws.recorded 4096 m marks l
     by_name (Mark m) l = past_area ws.lane 64 (4096 + m) (4160 + m) (records ++ marks) (omega arith) ∙ (past_area ws.recorded 4096 m (4096 + m) marks refl ∙ get_or-map-range_with_len ws.mark 0 4096 m m 0 l (omega arith))
