@@ -8,8 +8,9 @@ use lib.ListN.{get_elem?}
 use Rattle.ad_base.specs.declared.place.Place.{Place}
 use Rattle.ad_base.specs.Place.{place_at}
 use Rattle.ad_events.specs.declared.mapping.Mapping.{Mapping}
+use Rattle.ad_events.specs.declared.mapping.Status.TheVariants.{Current}
 use Rattle.ad_events.specs.declared.event.Event.{Event}
-use Rattle.ad_events.specs.World.{world_opening, IsWorld}
+use Rattle.ad_events.specs.World.{mapping_of, world_opening, IsWorld}
 use Rattle.ad_events.specs.WorldLaws.{world_run, AllLawful}
 use Rattle.ad_events.specs.Reclaim.{ReclaimState}
 use Rattle.ad_events.specs.ReclaimLaws.{events_of}
@@ -120,6 +121,12 @@ pub reading_law : ReadingLaw
 reading_law shape s r = record {
   reached = from_opening shape s r;
   current = λ m low. (let k = current_known shape s r m low in (place_at (get_or s.words (16 + m) 0), k.is.there, k.word));
+  current_by = λ n m there.
+      (let low = (r.mappings.each n (mapping_of m Current) there).form.for_module in
+      let k = current_known shape s r m low in
+      let only = (world_of shape s r).fits.only in
+      let p : Place = place_at (get_or s.words (16 + m) 0) in
+      (low, (p, sym (only p.mapping m k.is.there).1 ∙ (only n m there).1, k.word)));
   fresh = λ id q at. (mover_knows shape s r id q at).mappings.fresh;
   outs = λ id q at. (mover_knows shape s r id q at).mappings.outs;
   directory = directory_says shape s r;

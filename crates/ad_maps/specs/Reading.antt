@@ -26,34 +26,46 @@ use Rattle.ad_maps.specs.MapPlace.{directory_word, member_word, numbers}
 use Rattle.ad_maps.specs.Names.{Slot, Current as CurrentWord, Directory, Member, IsName}
 use Rattle.ad_maps.specs.Rule.{St, Kept, AreAll}
 
--- some seat is worker w's, and is there
+-- some view is worker w's, with this stance
 abbrev pub IsAtStance : List Doing → ℕ → Stance → Type 0
 IsAtStance views w d = (id : ℕ) × (h : Hand) × (h.stance ≡ d) × (get_elem? views id ≡ some (Worker w h))
 
--- the directory's word of a mapping says whether it is Gone
+-- the directory's word at the region of a place with the mapping's number has one unmap step where the mapping is Gone, and
+-- none where it isn't
 abbrev pub DirectorySays : St → ℕ → Mapping → Type 0
 DirectorySays s n x = (p : Place) × (p.mapping ≡ n) × (((x.status ≡ Gone) × (found_in s (Directory p.region) ≡ directory_word p 1)) ⊎ ((x.status ≢ Gone) × (found_in s (Directory p.region) ≡ packed p)))
 
--- The world is what a list of lawful events makes of the opening's. Current is read off the words, Fresh and Out off the
--- mover's view, Gone off the directory, and who has entered and who is inside what off the worker's views, each both ways.
--- A mapping that a view is inside isn't Gone. A slot's word counts who has entered or is inside in its low half, and has
--- the last batch pushed there in its high half. Which mappings are retired or gone, and the batch of each, is read off the
--- members' words, both ways: each has a member's word that isn't 0, in the batch that it is listed in, and each such word
--- is that of one
+-- The world is read off the words and the views
 pub record IsRead (shape : Shape) (s : St) (r : Kept shape s) : Type 0 where
+  -- the world is what a list of lawful events makes of the opening's
   pub reached : (events : List Event) × AllLawful (world_opening shape.workers (numbers shape)) events × (r.state.world ≡ world_run (world_opening shape.workers (numbers shape)) events)
+  -- a module's current word is that of a place, and the mapping of its number is the module's, and Current
   pub current : (m : ℕ) → m < length shape.modules → (p : Place) × (map.get r.state.world.mappings p.mapping ≡ Some (mapping_of m Current)) × (found_in s (CurrentWord m) ≡ packed p)
+  -- and a mapping that is Current is that of its module's current word
+  pub current_by : (n m : ℕ) → map.get r.state.world.mappings n ≡ Some (mapping_of m Current) → (m < length shape.modules) × ((p : Place) × (p.mapping ≡ n) × (found_in s (CurrentWord m) ≡ packed p))
+  -- the mover's list of fresh mappings has those that are Fresh, and no other
   pub fresh : (id : ℕ) (q : Plan) → get_elem? s.views id ≡ some (Mover q) → AreAll r.state.world.mappings r.places q.fresh Fresh
+  -- the mover's list of mappings that are out has those that are Out, and no other
   pub outs : (id : ℕ) (q : Plan) → get_elem? s.views id ≡ some (Mover q) → AreAll r.state.world.mappings r.places q.outs Out
+  -- the directory says of each mapping whether it is Gone
   pub directory : (n : ℕ) (x : Mapping) → map.get r.state.world.mappings n ≡ Some x → DirectorySays s n x
+  -- a worker whose view is inside a mapping is inside that in the world
   pub inside : (w entry m : ℕ) (p : Place) → IsAtStance s.views w (stance.Inside entry m p) → map.get r.state.world.inside w ≡ Some p.mapping
+  -- and a worker that is inside a mapping in the world has a view that is inside it
   pub inside_by : (w n : ℕ) → map.get r.state.world.inside w ≡ Some n → (entry : ℕ) × (m : ℕ) × (p : Place) × (p.mapping ≡ n) × IsAtStance s.views w (stance.Inside entry m p)
+  -- a worker whose view has entered has entered in the world
   pub entered : (w entry : ℕ) → IsAtStance s.views w (stance.Entered entry) → set.contains r.state.world.entered w ≡ true
+  -- and a worker that has entered in the world has a view that has entered
   pub entered_by : (w : ℕ) → set.contains r.state.world.entered w ≡ true → (entry : ℕ) × IsAtStance s.views w (stance.Entered entry)
+  -- a mapping that a view is inside is one in which workers may be, and isn't Gone
   pub pinned : (w entry m : ℕ) (p : Place) → IsAtStance s.views w (stance.Inside entry m p) → MayBeInside (map.get r.state.world.mappings p.mapping) × (status_of r.state.world p.mapping ≢ Some Gone)
+  -- a slot's word is 2^32 times the last batch pushed on the slot, and one for each seat that is inside the slot
   pub slots : (t : ℕ) → t < shape.slots → found_in s (Slot t) ≡ 2 ^ 32 * pushed_on r.state.owed t + count_by (is_inside t) r.state.owed.seats
+  -- a mapping that a batch lists has the word of one of the batch's members
   pub retired : (n b : ℕ) → r.state.batch n ≡ Some b → (k : ℕ) × (k < MEMBERS) × (found_in s (Member b k) ≡ member_word (r.lines n) (r.places n).region)
+  -- a mapping that is retired or gone is listed in a batch, and has the word of one of its members, which isn't 0
   pub listed : (n : ℕ) → IsListed r.state.world n → (b : ℕ) × (k : ℕ) × (r.state.batch n ≡ Some b) × IsName (Member b k) × (found_in s (Member b k) ≢ 0) × (found_in s (Member b k) ≡ member_word (r.lines n) (r.places n).region)
+  -- and a member's word that isn't 0 is that of a mapping which its batch lists, and which is retired or gone
   pub retired_by : (b k : ℕ) → IsName (Member b k) → found_in s (Member b k) ≢ 0 → (n : ℕ) × (r.state.batch n ≡ Some b) × IsListed r.state.world n × (found_in s (Member b k) ≡ member_word (r.lines n) (r.places n).region)
 
 abbrev pub ReadingLaw : Type 0
