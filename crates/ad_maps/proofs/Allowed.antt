@@ -43,7 +43,7 @@ use Rattle.ad_maps.proofs.MapLaw.{map_law}
 use Rattle.ad_maps.proofs.MappingFrames.{mover_knows}
 use Rattle.ad_maps.proofs.MoverLaws.{look_law, take_law, fill_law}
 use Rattle.ad_maps.proofs.ReadLaw.{current_known, falls_more, read_law}
-use Rattle.ad_maps.specs.Private.Laid.{dealt_out}
+use Rattle.ad_maps.specs.Opening.{mover_dealt}
 use Rattle.ad_maps.proofs.SeatLaws.{split_law}
 use Rattle.ad_maps.proofs.SwitchLaw.{switch_law}
 use Rattle.ad_maps.proofs.WorkerLaws.{slot_known, enter_law, leave_law, page_law, cell_law}
@@ -320,6 +320,6 @@ module _ (shape : Shape) (slots id : ℕ) where
       (after_settle (Mover (plan_of me.0)) (get_or s.words (131224 + (plan_of me.0).batches) 0), keeps, tt, step.kept, refl))))
 
 -- the next worker's seat may be split off
-pub allows_split : (shape : Shape) (id : ℕ) (me : Sat) (k : ℕ) → me ≡ (dealt_out shape k, []) → k < shape.workers → Splits (Kept shape) id me.0 (after_deal me.0) (given_off me.0)
+pub allows_split : (shape : Shape) (id : ℕ) (me : Sat) (k : ℕ) → me ≡ (mover_dealt shape k, []) → k < shape.workers → Splits (Kept shape) id me.0 (after_deal me.0) (given_off me.0)
 allows_split shape id me k is few = subst (λ (m : Sat). Splits (Kept shape) id m.0 (after_deal m.0) (given_off m.0)) (sym is)
-    (λ s r at. (split_law shape s r id (plan_of (dealt_out shape k)) at few refl).kept)
+    (λ s r at. (split_law shape s r id (plan_of (mover_dealt shape k)) at few refl).kept)

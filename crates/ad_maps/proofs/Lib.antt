@@ -19,6 +19,9 @@ pub mod Allowed
 pub mod Looking
 pub mod Openings
 pub mod Opened
+pub mod InOrder
+pub mod OpeningWords
+pub mod OpeningLaws
 pub mod NewSeats
 pub mod Ledgers
 pub mod Readings

@@ -25,8 +25,6 @@ use Rattle.ad_events.proofs.OwedRuns.{no_batch, opening-away}
 use Rattle.ad_events.proofs.WorldReads.{opening-has}
 use Rattle.ad_maps.specs.declared.shape.Opening.{Opening}
 use Rattle.ad_maps.specs.declared.shape.Shape.{Shape}
-use Rattle.ad_maps.specs.declared.view.Stage.TheVariants as stage
-use Rattle.ad_maps.specs.declared.view.Passing.TheVariants as passing
 use Rattle.ad_maps.specs.declared.view.Freeing.TheVariants as freeing
 use Rattle.ad_maps.specs.declared.view.Hand.{Hand}
 use Rattle.ad_maps.specs.declared.view.Made.{Made}
@@ -35,7 +33,7 @@ use Rattle.ad_maps.specs.declared.view.Doing.{Doing}
 use Rattle.ad_maps.specs.declared.view.Doing.TheVariants.{Mover}
 use Rattle.ad_maps.specs.Ledger.{opened_from, all_made}
 use Rattle.ad_maps.specs.MapPlace.{no_opening, nowhere, module_of_frame, opening_of, numbers, IsPlaceOf, IsShape}
-use Rattle.ad_maps.specs.Rule.{AllMappings, IsAs, Kept, Knows, Mappings, MappingStands, OwnersAreNewest, starting}
+use Rattle.ad_maps.specs.Rule.{AllMappings, IsAs, Kept, Knows, Mappings, MappingStands, OwnersAreNewest, starting, starting_plan}
 use Rattle.ad_maps.specs.Steps.{made, new_hand}
 use Rattle.ad_maps.specs.Private.Laid.{place_of_module, Laid}
 use Rattle.ad_maps.proofs.Elements.{none-in, cons-cases, cons-here, cons-later}
@@ -156,7 +154,7 @@ module _ (shape : Shape) (form : IsShape shape) (xs : List ℕ) (laid : Laid sha
       let number : x.place.mapping ≡ laid.words.owner f = ap (λ (p : Place). p.mapping) (place ∙ ap (place_of_module shape) of) ∙ sym o.3 in omega arith)
       (laid.laid.owned f)
 
-  mappings : Mappings shape ms places ledger (record { stage = stage.Idle; passing = passing.Rest; batches = 0; freeing = freeing.Nothing; slots = shape.slots; dealt = 0; current = numbers shape; fresh = []; outs = []; rooms = []; gives = []; deeds = []; back = [] }) (λ _. [])
+  mappings : Mappings shape ms places ledger (starting_plan shape) (λ _. [])
       laid.words.current laid.words.directory laid.words.owner laid.words.cell
   mappings = record {
     each = λ n x there.
@@ -190,7 +188,7 @@ module _ (shape : Shape) (form : IsShape shape) (xs : List ℕ) (laid : Laid sha
   -- the rule holds of the table as it is opened
   pub opening_kept : Kept shape (opening xs [] (starting shape))
   opening_kept =
-      let plan : Plan = record { stage = stage.Idle; passing = passing.Rest; batches = 0; freeing = freeing.Nothing; slots = shape.slots; dealt = 0; current = numbers shape; fresh = []; outs = []; rooms = []; gives = []; deeds = []; back = [] } in
+      let plan : Plan = starting_plan shape in
       let hands : ℕ → Hand = λ w. new_hand (w % shape.slots) in record {
         words = laid.words;
         state = machine.reclaim_opening shape.slots shape.workers (numbers shape);

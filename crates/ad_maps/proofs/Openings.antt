@@ -21,7 +21,7 @@ module _ (shape : Shape) (form : IsShape shape) where
   pub frame-of : (m : ℕ) → m < length shape.modules → module_of_frame shape (place_of_module shape m).frame ≡ m
   frame-of m low = let some = form.some_frames in ap (λ (f : ℕ). f / shape.frames) (form.each m low).frame ∙ mul-div_cancel m (omega arith)
 
-  frames-apart : (m k : ℕ) → m < length shape.modules → k < length shape.modules → m ≢ k → (place_of_module shape m).frame ≢ (place_of_module shape k).frame
+  pub frames-apart : (m k : ℕ) → m < length shape.modules → k < length shape.modules → m ≢ k → (place_of_module shape m).frame ≢ (place_of_module shape k).frame
   frames-apart m k low lower apart e = apart (sym (frame-of m low) ∙ (ap (module_of_frame shape) e ∙ frame-of k lower))
 
   pub frame-low : (m : ℕ) → m < length shape.modules → (place_of_module shape m).frame < 128
@@ -84,6 +84,8 @@ module _ (shape : Shape) (form : IsShape shape) where
               ];
           cells = old.cells;
           part = λ i b. absurd (omega arith);
+          spare = λ m far. changed-else ws.current k (packed p) m (λ e. omega arith) ∙ old.spare m (omega arith);
+          filled = λ f i has. let was = old.filled f i has in (was.0, let b = was.1 in omega arith, was.2);
           past = old.past;
         };
       }
@@ -92,8 +94,9 @@ module _ (shape : Shape) (form : IsShape shape) where
   with_cells : (k c e c' e' : ℕ) (ws : Words) (cell : ℕ → ℕ → ℕ) → LaidBy shape k c e ws
       → ((m : ℕ) → m < c' → (i : ℕ) → cell (place_of_module shape m).frame i ≡ cell_word (cells_of shape m) (base_of (place_of_module shape m)) i)
       → ((i : ℕ) → i < e' → cell (place_of_module shape c').frame i ≡ cell_word (cells_of shape c') (base_of (place_of_module shape c')) i)
+      → ((f i : ℕ) → cell f i ≢ 0 → (m : ℕ) × (m < k) × ((place_of_module shape m).frame ≡ f))
       → ((f i : ℕ) → length (cells_of shape (module_of_frame shape f)) ≤ i → cell f i ≡ 0) → LaidBy shape k c' e' (record ws { cell = cell })
-  with_cells k c e c' e' ws cell old cells part past = record {
+  with_cells k c e c' e' ws cell old cells part filled past = record {
     slot = old.slot;
     count = old.count;
     member = old.member;
@@ -104,6 +107,8 @@ module _ (shape : Shape) (form : IsShape shape) where
     owned = old.owned;
     cells = cells;
     part = part;
+    spare = old.spare;
+    filled = filled;
     past = past;
   }
 
@@ -124,6 +129,11 @@ module _ (shape : Shape) (form : IsShape shape) where
             elim (cases_eq i e) [
               | inl here ↦ row-here ws.cell f e x f i refl here ∙ (is ∙ ap (cell_word (cells_of shape k) (base_of p)) (sym here))
               | inr else ↦ row-column ws.cell f e x f i else ∙ old.part i (omega arith)
+            ])
+            (λ h i has.
+            elim (cases_eq h f) [
+              | inl here ↦ (k, omega arith, sym here)
+              | inr else ↦ old.filled h i (λ z. has (row-else ws.cell f e x h i else ∙ z))
             ])
             (λ h i far.
             elim (cases_eq h f) [
@@ -150,6 +160,7 @@ module _ (shape : Shape) (form : IsShape shape) where
               | inr ne ↦ old.cells m (omega arith) i
             ])
             (λ i b. absurd (omega arith))
+            old.filled
             old.past;
       }
     where
@@ -176,6 +187,8 @@ none_laid shape xs long zeros = record {
     owned = λ f. inl refl;
     cells = λ m b i. absurd (omega arith);
     part = λ i b. absurd (omega arith);
+    spare = λ m far. refl;
+    filled = λ f i has. absurd (has refl);
     past = λ f i far. refl;
   };
 }

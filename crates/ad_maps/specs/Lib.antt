@@ -9,3 +9,4 @@ pub mod Rows
 pub mod Private
 pub mod Reading
 pub mod Owing
+pub mod Opening

@@ -1,5 +1,6 @@
 -- The words of the table, by name. An area has a base, and no word of two areas.
-use Rattle.std.specs.Prelude.{◌≡◌, ℕ, ◌+◌, ◌*◌, ◌<◌, List, length, slice_index}
+use Rattle.std.specs.Prelude.{◌≡◌, ℕ, ◌+◌, ◌*◌, ◌<◌, List, ◌++◌, map, length, slice_index}
+use Rattle.std.specs.List.{flat_map, range_with_len}
 use Rattle.ad_events.specs.Functions.{changed}
 use Rattle.ad_maps.specs.declared.words.TheConstants.{SLOTS, MODULE_WORDS, REGION_WORDS, FRAME_WORDS, CELLS, NUMBERS, MEMBERS, CURRENT_BASE, DIRECTORY_BASE, OWNER_BASE, CELL_BASE, COUNT_BASE, MEMBER_BASE, WORDS}
 
@@ -67,3 +68,14 @@ wrote ws (Member b k) x = record ws { member = changed ws.member b (changed (ws.
 -- the table's words are these
 abbrev pub AreWords : List ℕ → Words → Type 0
 AreWords xs ws = (length xs ≡ WORDS) × ((n : Name) → IsName n → slice_index xs (index n) ≡ read ws n)
+
+-- the words, in the order in which they stand
+unfoldable pub in_order : Words → List ℕ
+in_order ws =
+    map ws.slot (range_with_len 0 SLOTS)
+    ++ map ws.current (range_with_len 0 MODULE_WORDS)
+    ++ map ws.directory (range_with_len 0 REGION_WORDS)
+    ++ map ws.owner (range_with_len 0 FRAME_WORDS)
+    ++ flat_map (λ f. map (ws.cell f) (range_with_len 0 CELLS)) (range_with_len 0 FRAME_WORDS)
+    ++ map ws.count (range_with_len 0 NUMBERS)
+    ++ flat_map (λ b. map (ws.member b) (range_with_len 0 MEMBERS)) (range_with_len 0 NUMBERS)

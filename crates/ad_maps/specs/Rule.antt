@@ -351,6 +351,10 @@ pub record Kept (shape : Shape) (s : St) : Type 0 where
   pub seated : Seated hands seater plan mover s.views
   pub dealt : Dealt shape hands plan
 
+-- what the mover knows at first: each module's first mapping is current, nothing is under way, and no worker has its seat
+abbrev pub starting_plan : Shape → Plan
+starting_plan shape = record { stage = stage.Idle; passing = passing.Rest; batches = 0; freeing = freeing.Nothing; slots = shape.slots; dealt = 0; current = numbers shape; fresh = []; outs = []; rooms = []; gives = []; deeds = []; back = [] }
+
 -- the view of the first seat, the mover's
 abbrev pub starting : Shape → Doing
-starting shape = Mover (record { stage = stage.Idle; passing = passing.Rest; batches = 0; freeing = freeing.Nothing; slots = shape.slots; dealt = 0; current = numbers shape; fresh = []; outs = []; rooms = []; gives = []; deeds = []; back = [] })
+starting shape = Mover (starting_plan shape)

@@ -1,8 +1,18 @@
 //! The laws of the steps. Each function makes no call: its contract is the law.
 
 ghost use Rattle.ad_maps.specs.Laws.{EnterLaw, ReadLaw, PageLaw, CellLaw, LeaveLaw, PayLaw, MemberLaw, UnmapLaw, GiveLaw, LookLaw, TakeLaw, FillLaw, MapLaw, SwitchLaw, ListLaw, OpenLaw, PushLaw, SettleLaw, SplitLaw, JoinLaw, OwnerLaw, OwnPagesLaw, OwnCellsLaw};
+ghost use Rattle.ad_maps.specs.Opening.{OpeningWordsLaw, OpenedLaw, DealtLaw};
 ghost use Rattle.ad_maps.specs.Owing.{CountsLaw, MoverOwesNothingLaw, PinnedLaw, QuietLaw, WorkerOwesNothingLaw};
 ghost use Rattle.ad_maps.specs.Reading.{ReadingLaw};
+
+/// A table that is opened begins with the words of its shape: each module's first mapping is current, is in the
+/// directory, owns its frame, and has its cells there, and every other word is 0. With these words, and the mover's
+/// view, it meets the rule, and so does it behind each seat that is dealt to a worker.
+pub fn law_opening()
+    ensures words { OpeningWordsLaw }
+    ensures opened { OpenedLaw }
+    ensures dealt { DealtLaw }
+{}
 
 /// To enter is lawful, keeps the rule, and is the event `Enter`.
 pub fn law_enter()

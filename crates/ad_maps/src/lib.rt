@@ -18,8 +18,8 @@ mod words;
 
 pub use close::Closed;
 pub use laws::{
-    law_enter, law_leave, law_list, law_map, law_other, law_owing, law_own_pages, law_owner,
-    law_read, law_reading, law_switch, law_unmap,
+    law_enter, law_leave, law_list, law_map, law_opening, law_other, law_owing, law_own_pages,
+    law_owner, law_read, law_reading, law_switch, law_unmap,
 };
 pub use maps::{Busy, Inside, Mapped, Maps, MoverSeat, Out, Room, Seat};
 pub use shape::{Opening, Shape};

@@ -3,9 +3,11 @@
 ghost use Rattle.std.specs.Prelude.{◌≡◌, ◌+◌, ◌<◌, ◌≤◌, [], length, vec_len, All, IfOk, OnOk};
 ghost use Rattle.ad_base.specs.declared.place.Place.{Place};
 ghost use Rattle.ad_maps.specs.MapPlace.{opening_of, IsShape};
+ghost use Rattle.ad_maps.specs.Names.{in_order};
+ghost use Rattle.ad_maps.specs.Opening.{mover_dealt, opening_words};
 ghost use Rattle.ad_maps.specs.Seen.{new_mover, AreNew};
 ghost use Rattle.ad_maps.specs.Private.Handles.{IsAt};
-ghost use Rattle.ad_maps.specs.Private.Laid.{dealt_out, Laid, Laying};
+ghost use Rattle.ad_maps.specs.Private.Laid.{Laid, Laying};
 
 use crate::maps::{Maps, MoverSeat, Seat};
 use crate::moves::word_of;
@@ -80,7 +82,8 @@ fn cells_again(alloc: Global, cells: &[Cell]) -> Result<Sequence<Cell>, OutOfMem
 /// The words of the table as it is opened.
 fn words_of(alloc: Global, shape: &Shape) -> Result<Vec<u64>, OutOfMemory>
     requires { IsShape shape.now }
-    ensures { IfOk result (λ words. Laid shape.now (length shape.now.modules) words.items) }
+    ensures len { IfOk result (λ words. length words.items ≡ WORDS) }
+    ensures value { IfOk result (λ words. words.items ≡ in_order (opening_words shape.now)) }
 {
     let mut words = zero_words(alloc, WORDS)?;
     let modules = shape.modules.as_slice();
@@ -135,9 +138,9 @@ fn deal(
     requires slots { slots ≡ table.now.shared.key.slots }
     requires some_slot { 1 ≤ slots }
     requires few_slots { slots ≤ 16 }
-    requires none { mover.old.me ≡ (dealt_out table.now.shared.key 0, []) }
+    requires none { mover.old.me ≡ (mover_dealt table.now.shared.key 0, []) }
     ensures at { mover.new.table_id ≡ mover.old.table_id }
-    ensures dealt { OnOk result (mover.new.me ≡ (dealt_out table.now.shared.key workers, [])) }
+    ensures dealt { OnOk result (mover.new.me ≡ (mover_dealt table.now.shared.key workers, [])) }
     ensures seats { IfOk result (λ seats. AreNew table.now.shared.table_id workers seats.items) }
 {
     let mut seats = Vec::new(alloc);

@@ -1,14 +1,9 @@
 -- The words of the table as it is opened, module by module.
-use Rattle.std.specs.Prelude.{◌≡◌, ◌≢◌, ◌⊎◌, ℕ, ◌<◌, ◌≤◌, List, [], length}
+use Rattle.std.specs.Prelude.{◌≡◌, ◌≢◌, ◌⊎◌, ℕ, ◌<◌, ◌≤◌, List, length}
 use Rattle.ad_base.specs.declared.place.Place.{Place}
 use Rattle.ad_base.specs.Place.{base_of, packed}
 use Rattle.ad_maps.specs.declared.shape.Shape.{Shape}
-use Rattle.ad_maps.specs.declared.view.Stage.TheVariants as stage
-use Rattle.ad_maps.specs.declared.view.Passing.TheVariants as passing
-use Rattle.ad_maps.specs.declared.view.Freeing.TheVariants as freeing
-use Rattle.ad_maps.specs.declared.view.Doing.{Doing}
-use Rattle.ad_maps.specs.declared.view.Doing.TheVariants.{Mover}
-use Rattle.ad_maps.specs.MapPlace.{opening_of, cells_of, cell_word, module_of_frame, numbers}
+use Rattle.ad_maps.specs.MapPlace.{opening_of, cells_of, cell_word, module_of_frame}
 use Rattle.ad_maps.specs.Names.{Words, AreWords}
 
 -- where module m's first mapping lies
@@ -27,6 +22,8 @@ pub record LaidBy (shape : Shape) (k c e : ℕ) (words : Words) : Type 0 where
   pub owned : (f : ℕ) → (words.owner f ≡ 0) ⊎ ((m : ℕ) × (m < k) × ((place_of_module shape m).frame ≡ f) × (words.owner f ≡ (place_of_module shape m).mapping))
   pub cells : (m : ℕ) → m < c → (i : ℕ) → words.cell (place_of_module shape m).frame i ≡ cell_word (cells_of shape m) (base_of (place_of_module shape m)) i
   pub part : (i : ℕ) → i < e → words.cell (place_of_module shape c).frame i ≡ cell_word (cells_of shape c) (base_of (place_of_module shape c)) i
+  pub spare : (m : ℕ) → k ≤ m → words.current m ≡ 0
+  pub filled : (f i : ℕ) → words.cell f i ≢ 0 → (m : ℕ) × (m < k) × ((place_of_module shape m).frame ≡ f)
   pub past : (f i : ℕ) → length (cells_of shape (module_of_frame shape f)) ≤ i → words.cell f i ≡ 0
 
 -- the table's words are so
@@ -38,7 +35,3 @@ pub record Laying (shape : Shape) (k c e : ℕ) (xs : List ℕ) : Type 0 where
 -- the table's words, once k modules are laid
 abbrev pub Laid : Shape → ℕ → List ℕ → Type 0
 Laid shape k xs = Laying shape k k 0 xs
-
--- the mover's view once k worker's seats are split off
-abbrev pub dealt_out : Shape → ℕ → Doing
-dealt_out shape k = Mover (record { stage = stage.Idle; passing = passing.Rest; batches = 0; freeing = freeing.Nothing; slots = shape.slots; dealt = k; current = numbers shape; fresh = []; outs = []; rooms = []; gives = []; deeds = []; back = [] })
