@@ -1,6 +1,7 @@
 //! The threads of a run: one for each worker, beside the mover.
 
 ghost use Rattle.std.specs.Prelude.{◌≡◌, ℕ, ◌+◌, ◌<◌, ◌≤◌, [], length, slice_index_or, sum_by, vec_capacity, All};
+ghost use Rattle.ad_maps.specs.declared.words.TheConstants.{MEMBERS};
 ghost use Rattle.ad_mover.specs.Moves.{MakesSteps};
 ghost use Rattle.ad_mover.specs.Seen.{moves_of, moving, IsMoverOf, MayBeMade};
 ghost use Rattle.ad_run.specs.declared.threads.Job.{Job};
@@ -38,7 +39,7 @@ pub fn run_beside<R: Threads + Wait + Sync, G: Gate + Sync>(
     requires ready { All (IsReady shared.now) jobs.items }
     requires mover { IsMoverOf shared.now mover }
     requires no_outs { mover.outs.items ≡ [] }
-    requires outs { 8 ≤ vec_capacity mover.outs }
+    requires outs { MEMBERS ≤ vec_capacity mover.outs }
     requires done { length mover.done.items + sum_by moves_of script.now ≤ vec_capacity mover.done }
     requires steps { All (MayBeMade (length shared.now.images) mover.stack_mover.lanes) script.now }
     ensures count { length result.0.items ≡ length jobs.items }
@@ -55,7 +56,7 @@ pub fn run_beside<R: Threads + Wait + Sync, G: Gate + Sync>(
             requires fits { Fits shared.now }
             requires mover { IsMoverOf shared.now mover }
             requires no_outs { mover.outs.items ≡ [] }
-            requires outs { 8 ≤ vec_capacity mover.outs }
+            requires outs { MEMBERS ≤ vec_capacity mover.outs }
             requires done { length mover.done.items + sum_by moves_of script.now ≤ vec_capacity mover.done }
             requires steps { All (MayBeMade (length shared.now.images) mover.stack_mover.lanes) script.now }
             ensures moved { MakesSteps shared.entry.now.maps.shape script.entry.now (moving mover) (moving result) }
