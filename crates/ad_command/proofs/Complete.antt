@@ -32,7 +32,7 @@ module _ (files : List ℕ → List ℕ) where
   unfolding file_of
   file-gives name short = ([], refl, file-by FILE_BYTES name short)
 
-  script-gives : (name : List ℕ) (s : Script) → length (files name) ≤ FILE_BYTES → script_of (files name) ≡ Ok s → Gives files (script_in name) (name ∷ []) (Ok s)
+  pub script-gives : (name : List ℕ) (s : Script) → length (files name) ≤ FILE_BYTES → script_of (files name) ≡ Ok s → Gives files (script_in name) (name ∷ []) (Ok s)
   unfolding script_in
   script-gives name s short is = gives-behind files (file_of name) (λ text. judged refused_script (script_of text)) (name ∷ []) [] (files name) (Ok s) (file-gives name short) (rw is (refl, refl))
 
@@ -93,7 +93,7 @@ module _ (files : List ℕ → List ℕ) where
   unfolding file-name
   image-gives seed workers before l i right = image-had module_of files file-name (λ x p short plan. module-gives x.file p short plan) seed workers before l i right
 
-  images-gives : (seed : ℕ) (s : Script) (images : List Image) → AreLinked files seed s.workers [] s.loads images → Gives files (loaded_images module_of seed s) (map (λ (l : Load). l.file) s.loads) (Ok images)
+  pub images-gives : (seed : ℕ) (s : Script) (images : List Image) → AreLinked files seed s.workers [] s.loads images → Gives files (loaded_images module_of seed s) (map (λ (l : Load). l.file) s.loads) (Ok images)
   unfolding loaded_images file-name
   images-gives seed s images right =
       subst (λ names. Gives files (loaded_images module_of seed s) names (Ok images)) (flat_map_single (λ (l : Load). l.file) s.loads)
@@ -123,7 +123,7 @@ module _ (files : List ℕ → List ℕ) where
     from-gives script job = gives-behind files script_had (λ x. job_of had x seed fuel) first more s (Ok done) script job
 
 -- words that are a command
-by-words : (files : List ℕ → List ℕ) (words : List (List ℕ)) (c : Command) (names : List (List ℕ)) (r : Result Work Trouble) → command_of words ≡ Some c → Gives files (work_of c) names r → Gives files (command words) names r
+pub by-words : (files : List ℕ → List ℕ) (words : List (List ℕ)) (c : Command) (names : List (List ℕ)) (r : Result Work Trouble) → command_of words ≡ Some c → Gives files (work_of c) names r → Gives files (command words) names r
 unfolding command
 by-words files words c names r is gives = subst (λ x. Gives files (given Usage x >>= work_of) names r) (sym is) gives
 

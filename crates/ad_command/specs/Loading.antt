@@ -1,13 +1,12 @@
 -- Loading a module, and all modules of a script.
-use Rattle.std.specs.Prelude.{◌≡◌, ◌≤◌, ◌⊎◌, ℕ, List, [], ◌∷◌, ◌++◌, length, nat_lt, if◌then◌else◌}
+use Rattle.std.specs.Prelude.{◌≡◌, ◌≤◌, ℕ, List, [], ◌∷◌, ◌++◌, length, nat_lt, if◌then◌else◌}
 use Rattle.ad_base.specs.declared.image.Image.{Image}
 use Rattle.ad_base.specs.declared.layout.TheConstants.{FILE_BYTES}
 use Rattle.ad_base.specs.declared.ledger.Kind.TheVariants.{Fixed}
 use Rattle.ad_base.specs.declared.place.Place.{Place}
 use Rattle.ad_generator.specs.Generated.{built_named}
 use Rattle.ad_generator.specs.Script.{script_text}
-use Rattle.ad_link.specs.declared.refusal.LinkRefusal.{LinkRefusal}
-use Rattle.ad_link.specs.Plan.{IsPlan, IsRefused, IsRefusedAt, Planned, fixed_pages}
+use Rattle.ad_link.specs.Plan.{IsPlan, Planned, fixed_pages}
 use Rattle.ad_lines.specs.Opening.{opening_drawn}
 use Rattle.ad_place.specs.Choice.{next_place}
 use Rattle.ad_reloc.specs.Image.{IsImage}
@@ -72,9 +71,3 @@ pub record IsLinked (files : List ℕ → List ℕ) (seed workers : ℕ) (before
 abbrev pub AreLinked : (List ℕ → List ℕ) → ℕ → ℕ → List Image → List Load → List Image → Type 0
 AreLinked files seed workers before [] images = images ≡ before
 AreLinked files seed workers before (l ∷ ls) images = (i : Image) × IsLinked files seed workers before l i × AreLinked files seed workers (before ++ i ∷ []) ls images
-
--- Over files of these bytes a load is refused so behind others: its file isn't too long, and has no plan, or has one that has
--- no image.
-pub record IsRefusedLoad (files : List ℕ → List ℕ) (seed workers : ℕ) (before : List Image) (l : Load) (r : LinkRefusal) : Type 0 where
-  pub short : length (files l.file) ≤ FILE_BYTES
-  pub refused : IsRefused (files l.file) r ⊎ ((p : Planned) × IsPlan (files l.file) p × IsRefusedAt (fixed_behind seed workers before p) p r)

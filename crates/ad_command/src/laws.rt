@@ -1,6 +1,6 @@
 //! Laws of the command.
 
-ghost use Rattle.std.specs.Prelude.{◌≡◌, ◌≤◌, ℕ, List, [], ◌∷◌, ◌++◌, length, map, codes, Result, Some, Ok, Err};
+ghost use Rattle.std.specs.Prelude.{◌≡◌, ◌<◌, ◌≤◌, ℕ, List, [], ◌∷◌, ◌++◌, length, map, codes, Result, None, Some, Ok, Err};
 ghost use Rattle.ad_base.specs.declared.image.Image.{Image};
 ghost use Rattle.ad_generator.specs.Generated.{built_named, generated_script};
 ghost use Rattle.ad_link.specs.declared.refusal.LinkRefusal.{LinkRefusal};
@@ -10,11 +10,14 @@ ghost use Rattle.ad_lines.specs.declared.ready.ReadyStep.{ReadyStep};
 ghost use Rattle.ad_lines.specs.Ready.{ready_steps};
 ghost use Rattle.ad_script.specs.declared.script.Load.{Load};
 ghost use Rattle.ad_script.specs.declared.script.Script.{Script};
+ghost use Rattle.ad_script.specs.declared.refusal.Cause.{Cause};
 ghost use Rattle.ad_script.specs.declared.refusal.Cause.TheVariants.{Word};
+ghost use Rattle.ad_script.specs.declared.refusal.ScriptRefusal.TheVariants.{At};
 ghost use Rattle.ad_script.specs.Script.{script_of};
 ghost use Rattle.ad_command.specs.Chain.{Gives};
 ghost use Rattle.ad_command.specs.Command.{Beside, Generated, Lines, Predicted, Shown, Work, command, shown_at};
-ghost use Rattle.ad_command.specs.Loading.{AreLinked, IsRefusedLoad, loaded_images, module_of};
+ghost use Rattle.ad_command.specs.Loading.{AreLinked};
+ghost use Rattle.ad_command.specs.Refusals.{AreOnScript, IsRefusedLoad, IsRefusedShown, IsScriptIn};
 ghost use Rattle.ad_command.specs.Trouble.{refused_module};
 ghost use Rattle.ad_words.specs.Words.{Gen, Predict, Run, Seq, Show, command_of};
 
@@ -23,13 +26,39 @@ use ad_base::FILE_BYTES;
 use ad_generator::{law_files, law_images, law_plans, law_script};
 use ad_words::law_in_range;
 
-/// The chain of a script's loads ends at the first that a link refuses, before or after its immovable part has a place: the
-/// fault tells its file and the refusal, and no file behind it is asked for, whatever that holds.
+/// The first refusal ends the chain of a command, whatever the files hold, and nothing behind it is asked for. Words of no command
+/// come to 'usage'. With those of `run`, `seq` or `predict` the file of the script is asked for, which may be too long, or has a
+/// first line that is refused, with its first cause; then, in order, the file of each module, which may be too long, or which the
+/// link refuses before or after its immovable part has a place; at last a line may call an export that its module hasn't. With
+/// those of `show` the one file is asked for, which may be too long, or which the link refuses.
 pub fn law_first_refusal()
-    ensures { (files : List ℕ → List ℕ) (seed : ℕ) (s : Script) (linked : List Load) (l : Load) (more : List Load)
-        (images : List Image) (r : LinkRefusal)
+    ensures words { (files : List ℕ → List ℕ) (words : List (List ℕ)) → command_of words ≡ None → Gives files (command words) [] (Err Trouble.Usage) }
+    ensures large_script { (files : List ℕ → List ℕ) (words : List (List ℕ)) (operand : List ℕ) (seed : ℕ)
+        → AreOnScript words operand seed → FILE_BYTES < length (files operand)
+        → Gives files (command words) (operand ∷ []) (Err (Trouble.TooLarge operand)) }
+    ensures script { (files : List ℕ → List ℕ) (words : List (List ℕ)) (operand : List ℕ) (seed line : ℕ) (cause : Cause)
+        → AreOnScript words operand seed → length (files operand) ≤ FILE_BYTES → script_of (files operand) ≡ Err (At line cause)
+        → Gives files (command words) (operand ∷ []) (Err (Trouble.Script line cause)) }
+    ensures large_module { (files : List ℕ → List ℕ) (words : List (List ℕ)) (operand : List ℕ) (seed : ℕ) (s : Script)
+        (linked : List Load) (l : Load) (more : List Load) (images : List Image)
+        → AreOnScript words operand seed → IsScriptIn files operand s
+        → s.loads ≡ linked ++ l ∷ more → AreLinked files seed s.workers [] linked images → FILE_BYTES < length (files l.file)
+        → Gives files (command words) (operand ∷ map (λ x. x.file) linked ++ l.file ∷ []) (Err (Trouble.TooLarge l.file)) }
+    ensures module { (files : List ℕ → List ℕ) (words : List (List ℕ)) (operand : List ℕ) (seed : ℕ) (s : Script)
+        (linked : List Load) (l : Load) (more : List Load) (images : List Image) (r : LinkRefusal)
+        → AreOnScript words operand seed → IsScriptIn files operand s
         → s.loads ≡ linked ++ l ∷ more → AreLinked files seed s.workers [] linked images → IsRefusedLoad files seed s.workers images l r
-        → Gives files (loaded_images module_of seed s) (map (λ x. x.file) linked ++ l.file ∷ []) (Err (refused_module l.file r)) }
+        → Gives files (command words) (operand ∷ map (λ x. x.file) linked ++ l.file ∷ []) (Err (refused_module l.file r)) }
+    ensures export { (files : List ℕ → List ℕ) (words : List (List ℕ)) (operand : List ℕ) (seed : ℕ) (s : Script) (images : List Image) (line : ℕ)
+        → AreOnScript words operand seed → IsScriptIn files operand s
+        → AreLinked files seed s.workers [] s.loads images → ready_steps images s.steps ≡ Err line
+        → Gives files (command words) (operand ∷ map (λ x. x.file) s.loads) (Err (Trouble.NoExport line)) }
+    ensures large_shown { (files : List ℕ → List ℕ) (words : List (List ℕ)) (operand : List ℕ)
+        → command_of words ≡ Some (Show operand) → FILE_BYTES < length (files operand)
+        → Gives files (command words) (operand ∷ []) (Err (Trouble.TooLarge operand)) }
+    ensures shown { (files : List ℕ → List ℕ) (words : List (List ℕ)) (operand : List ℕ) (r : LinkRefusal)
+        → command_of words ≡ Some (Show operand) → IsRefusedShown files operand r
+        → Gives files (command words) (operand ∷ []) (Err (refused_module operand r)) }
 {}
 
 /// Worked chains: words of no command, a command without an operand, `run` without one, more slots than a table may have, a script
