@@ -1,6 +1,7 @@
 //! The command over files and a sink in memory: worked examples of runs, and each refusal.
 
 mod built;
+mod large;
 mod linked;
 mod objects;
 mod scripts;
