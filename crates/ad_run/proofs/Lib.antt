@@ -29,6 +29,7 @@ pub mod ScriptSteps
 pub mod SoundRows
 pub mod Stale
 pub mod Told
+pub mod Traps
 pub mod Turns
 pub mod Whole
 pub mod Working

@@ -21,6 +21,7 @@ use Rattle.ad_lines.proofs.Elements.{all-read}
 use Rattle.ad_lines.proofs.ListReads.{each-all}
 use Rattle.ad_lines.proofs.PlacedApart.{IsPartOf, IsStackPlace}
 use Rattle.ad_lines.proofs.Stale.{fault-at-steps, region-of}
+use Rattle.ad_lines.proofs.Traps.{ends-at}
 use Rattle.ad_maps.specs.Rows.{ClosedSeen}
 use Rattle.ad_run.specs.Beside.{IsRowOf, IsRunBeside}
 use Rattle.ad_run.specs.Ended.{IsToRun}
@@ -94,10 +95,14 @@ module _ (slots frames : ℕ) (l : Lines) (script : List Step) (o : Outcome) (cl
           let from : base_of r.place ≤ at = inside.from in
           omega (arith, is.region_from, is.page_before, from)
 
-      finds-nothing : FindsNothing i e at
+    module _ (r : Row) (listed : Contains o.rows r) (other : IsOtherPlace i e r.place) (at : ℕ) (inside : IsInside r.place at) where
+      pub finds-nothing : FindsNothing i e at
       finds-nothing = record {
-        nothing = nothing;
-        fault = λ bytes fixed writable full long. fault-at-steps at (segments_of i e.under e.stack bytes fixed writable) (nothing bytes fixed writable full long) high;
+        nothing = nothing r listed other at inside;
+        fault = λ bytes fixed writable full long. fault-at-steps at (segments_of i e.under e.stack bytes fixed writable) (nothing r listed other at inside bytes fixed writable full long) (high r listed other at inside);
+        ends = λ bytes fixed writable full long.
+            ends-at r.place at (place-of-row slots frames l script ran.last mover-ran r (in-told r listed)) inside (segments_of i e.under e.stack bytes fixed writable)
+            (λ from within. nothing r listed other from within bytes fixed writable full long);
       }
 
   pub nothing-elsewhere : FindNothingElsewhere l o
