@@ -6,3 +6,4 @@ pub mod Beside
 pub mod Asked
 pub mod Ended
 pub mod Stale
+pub mod Worked

@@ -1,17 +1,22 @@
 //! What follows for a run with threads.
 
-ghost use Rattle.std.specs.Prelude.{ℕ, List};
+ghost use Rattle.std.specs.Prelude.{◌≡◌, ℕ, List, [], ◌∷◌, map};
 ghost use Rattle.ad_base.specs.declared.image.Image.{Image};
 ghost use Rattle.ad_base.specs.Book.{Contents};
 ghost use Rattle.ad_call.specs.Call.{HasData};
 ghost use Rattle.ad_core.specs.Turn.{IsLawful};
 ghost use Rattle.ad_lines.specs.Sound.{Lines, Outcome};
+ghost use Rattle.ad_maps.specs.declared.shape.Opening.{Opening};
 ghost use Rattle.ad_maps.specs.Rows.{ClosedSeen};
 ghost use Rattle.ad_run.specs.Asked.{CallsAskForAll};
 ghost use Rattle.ad_run.specs.Beside.{IsRunBeside};
 ghost use Rattle.ad_run.specs.Ended.{IsToRun};
+ghost use Rattle.ad_run.specs.Opened.{opening_in_frames, shape_for};
 ghost use Rattle.ad_run.specs.Stale.{AreTrappedElsewhere, FindNothingElsewhere};
+ghost use Rattle.ad_run.specs.Worked.{first_fixed, no_lines, opened, place_of, second_fixed};
 ghost use Rattle.ad_script.specs.declared.script.Step.{Step};
+
+use ad_base::Kind;
 
 /// Whoever kept an address of a mapping that a call doesn't run on, as of one that was unmapped, holds nothing: no row's place
 /// has an address in common with another's. In the memory of the call nothing lies there, whatever bytes its stack and its data
@@ -31,4 +36,14 @@ pub fn law_calls_ask_for_all()
     ensures asked { (slots frames : ℕ) (l : Lines) (script : List Step) (o : Outcome) (closed : ClosedSeen)
         → IsToRun frames l script → IsRunBeside slots frames l script o closed → CallsAskForAll l o }
     ensures data { (i : Image) (fuel : ℕ) (b : Contents) → IsLawful i fuel b → HasData i b.writable b.fixed }
+{}
+
+/// What a run of one worker on two modules begins with, at seed 0, where each module has three frames: in order of number the
+/// worker's stack, and of each module its immovable part, and its movable one in the first of its module's frames. Their places
+/// are those that the first ten words of ChaCha with a key of zeros say.
+pub fn law_worked_opening()
+    ensures mappings { opening_in_frames 3 no_lines ≡ opened Kind.Stack 0 (place_of 1 47222 24 4 0)
+        ∷ opened Kind.Fixed 0 first_fixed ∷ opened Kind.Code 0 (place_of 3 13105 43 4 0)
+        ∷ opened Kind.Fixed 1 second_fixed ∷ opened Kind.Code 1 (place_of 5 13128 39 4 3) ∷ [] }
+    ensures modules { map (λ (m : Opening). m.place) (shape_for 8 3 no_lines).modules ≡ place_of 3 13105 43 4 0 ∷ place_of 5 13128 39 4 3 ∷ [] }
 {}

@@ -13,6 +13,6 @@ mod threads;
 mod worker;
 
 pub use close::RunEnd;
-pub use laws::{law_calls_ask_for_all, law_stale_addresses};
+pub use laws::{law_calls_ask_for_all, law_stale_addresses, law_worked_opening};
 pub use open::Sizes;
 pub use run::run_lines;
