@@ -20,12 +20,14 @@ use Rattle.ad_maps.specs.Laws.{MayList, MayMap}
 use Rattle.ad_maps.specs.MapPlace.{cell_word, cells_of, member_word}
 use Rattle.ad_maps.specs.Names.{Owner}
 use Rattle.ad_maps.specs.Rule.{St, Kept, PassingStands, StageStands, IsTaken}
-use Rattle.ad_maps.specs.Steps.{Sat, hand, made, after_enter, after_read, after_act, after_leave, after_pay, after_member, after_unmap, after_give, after_list, after_open, after_push, after_settle, gives_of, settles, after_look, after_take, after_fill, after_map, after_switch, after_deal, given_off}
-use Rattle.ad_maps.specs.Private.Handles.{acts_of, worker_of, stance_of, entry_in, module_in, pinned_by, plan_of, IsAt, IsWorker, IsEntered, IsPinned, IsMover, IsToFree}
+use Rattle.ad_maps.specs.Steps.{Sat, hand, made, after_enter, after_read, after_act, after_leave, after_pay, after_member, after_unmap, after_give, after_list, after_open, after_push, after_settle, gives_of, settles, after_look, after_take, after_fill, after_map, after_switch, after_deal, given_off, freeing_of}
+use Rattle.ad_maps.specs.Private.Handles.{acts_of, worker_of, stance_of, entry_in, module_in, pinned_by, plan_of, IsAt, IsWorker, IsEntered, HasRetired, IsPinned, IsMover, IsToFree}
 use Rattle.ad_maps.specs.Private.Tells.{Leaves, Opens, Reads, Pages, Cells, Looks, Switches, Unmaps}
 use Rattle.ad_maps.proofs.Frames.{worker_knows}
 use Rattle.ad_maps.proofs.Pinned.{own_pages_law, own_cells_law}
 use Rattle.ad_events.specs.declared.mapping.Status.TheVariants.{Current, Out}
+use mathlib.Core.Option.{some}
+use lib.ListN.{get_elem?}
 use Rattle.std.specs.FinMap as map
 use Rattle.ad_events.specs.declared.mapping.Mapping.{Mapping}
 use Rattle.ad_events.specs.World.{mapping_of}
@@ -254,6 +256,15 @@ module _ (shape : Shape) (slots id : ℕ) where
       let step = member_law shape s r id me.0 b k at is.freeing in
       (after_member me.0 (get_or s.words (135320 + (8 * b + k)) 0), keeps, tt, step.kept, refl)))
 
+  -- the mover retired each mapping that it unmaps
+  has_retired : (s : St) (r : Kept shape s) (view : Doing) (b k word : ℕ) → get_elem? s.views id ≡ some view → freeing_of view ≡ freeing.Found b k word → HasRetired view (place_at (get_or s.words (24 + word % 2 ^ 16) 0)).mapping
+  has_retired s r Spent b k word at is = tt
+  has_retired s r (Worker w h) b k word at is = tt
+  has_retired s r (Mover q) b k word at is =
+      let known = (unmap_found shape s r id (Mover q) b k word at is).1 in
+      let n : ℕ = (place_at (get_or s.words (24 + word % 2 ^ 16) 0)).mapping in
+      subst (λ (line : ℕ). 0 < line) ((mover_knows shape s r id q at).lines_are n) (r.owing.some_line n b known.listed)
+
   pub allows_unmap : (st : Step (Unit {0})) (me : Sat) (b k word index : ℕ) → index ≡ 24 + word % 2 ^ 16 → IsToFree me (freeing.Found b k word) → Allows (Kept shape) slots id me index (λ n. (n + 2 ^ 56) % 2 ^ 64) (Unmaps st me)
   allows_unmap st me b k word index where_is is = subst (λ (i : ℕ). Allows (Kept shape) slots id me i (λ n. (n + 2 ^ 56) % 2 ^ 64) (Unmaps st me)) (sym where_is)
       (subst (λ (c : List (ℕ × Unit {0})). Allows (Kept shape) slots id (me.0, c) (24 + word % 2 ^ 16) (λ n. (n + 2 ^ 56) % 2 ^ 64) (Unmaps st (me.0, c))) (sym is.slots) (λ s r homes at fits.
@@ -263,7 +274,7 @@ module _ (shape : Shape) (slots id : ℕ) where
         keeps,
         tt,
         step.kept,
-        record { becomes = refl; place = known.1.stands.form.place.place; packs = known.1.word; frame = frame-few shape known.0 (place_at (get_or s.words (24 + word % 2 ^ 16) 0)) r.form known.1.stands.form },
+        record { becomes = refl; place = known.1.stands.form.place.place; packs = known.1.word; frame = frame-few shape known.0 (place_at (get_or s.words (24 + word % 2 ^ 16) 0)) r.form known.1.stands.form; retired = has_retired s r me.0 b k word at is.freeing },
       )))
 
   pub allows_give : (me : Sat) (p : Place) (index : ℕ) → index ≡ 65560 + p.frame → gives_of me.0 ≡ p ∷ [] → me.1 ≡ [] → Allows (Kept shape) slots id me index (λ _. 0) (λ _. Then after_give me 0)

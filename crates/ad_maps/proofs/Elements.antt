@@ -1,5 +1,5 @@
 -- The elements of lists, and what a list of acts or deeds tells once one more is added.
-use Rattle.std.proofs.Common.{◌≡◌, ◌≢◌, ◌⊎◌, ⊎_elim, inl, inr, ℕ, ◌≤◌, Bool, true, false, cond, not, eqb, List, [], ◌∷◌, ◌++◌, append-nil, refl, sym, ap, ◌∙◌, subst, arith, true≢false, eqb-true, eq-eqb, ne_eqb}
+use Rattle.std.proofs.Common.{◌≡◌, ◌≢◌, ◌⊎◌, ⊎_elim, inl, inr, ℕ, ◌≤◌, Bool, true, false, cond, not, eqb, List, [], ◌∷◌, ◌++◌, map, append-nil, refl, sym, ap, ◌∙◌, subst, arith, true≢false, eqb-true, eq-eqb, ne_eqb}
 use Rattle.std.specs.List.{All, Contains, filter}
 use Rattle.std.proofs.lemmas.Bool.{cases_Bool}
 use Rattle.std.proofs.lemmas.List.Elements.{Contains-append_left, Contains-append_right, Contains-append_cases, Contains-push_cases, Contains-push, All-nil, All-cons}
@@ -153,6 +153,16 @@ lines-retire (deed.Retire k l ∷ ds) n line new =
     ap (λ (b : Bool). cond b l (line_in (ds ++ deed.Retire n line ∷ []) n)) (ne_eqb k n (λ e. new (cons-here k (retires_in ds) n e)))
     ∙ lines-retire ds n line (λ c. new (cons-later k (retires_in ds) n c))
 lines-retire (deed.Unmap k ∷ ds) n line new = lines-retire ds n line new
+
+-- unmaps leave each line
+pub lines-unmaps : (deeds : List Deed) (numbers : List ℕ) (n : ℕ) → line_in (deeds ++ map (λ (k : ℕ). deed.Unmap k) numbers) n ≡ line_in deeds n
+lines-unmaps [] [] n = refl
+lines-unmaps [] (k ∷ ks) n = lines-unmaps [] ks n
+lines-unmaps (deed.Look f o ∷ ds) ks n = lines-unmaps ds ks n
+lines-unmaps (deed.Map m p ∷ ds) ks n = lines-unmaps ds ks n
+lines-unmaps (deed.Switch m p ∷ ds) ks n = lines-unmaps ds ks n
+lines-unmaps (deed.Retire k line ∷ ds) ks n = ap (λ (x : ℕ). cond (eqb k n) line x) (lines-unmaps ds ks n)
+lines-unmaps (deed.Unmap k ∷ ds) ks n = lines-unmaps ds ks n
 
 -- the line of another mapping stays
 pub lines-else : (deeds : List Deed) (n line i : ℕ) → i ≢ n → line_in (deeds ++ deed.Retire n line ∷ []) i ≡ line_in deeds i

@@ -1,6 +1,7 @@
 -- What the view of a seat is while it pays and frees batches.
-use Rattle.std.proofs.Common.{◌≡◌, ◌≢◌, ℕ, ◌<◌, ◌≤◌, Bool, cond, eqb, eq-eqb, ne_eqb, List, [], ◌∷◌, ◌++◌, map, append_assoc, append-nil, refl, sym, ap, ◌∙◌, arith}
+use Rattle.std.proofs.Common.{◌≡◌, ◌≢◌, ℕ, ◌<◌, ◌≤◌, Bool, cond, eqb, eq-eqb, ne_eqb, List, [], ◌∷◌, ◌++◌, map, append_assoc, append-nil, refl, sym, ap, ◌∙◌, subst, arith}
 use Rattle.std.proofs.lemmas.Bool.{le-ltb, lt-ltb}
+use Rattle.std.proofs.lemmas.List.Elements.{All-append, All-cons, All-nil, All-weaker}
 use Rattle.ad_base.specs.declared.place.Place.{Place}
 use Rattle.ad_base.specs.Place.{place_at}
 use Rattle.ad_maps.specs.declared.view.Act.{Act}
@@ -15,7 +16,8 @@ use Rattle.ad_maps.specs.declared.view.Doing.{Doing}
 use Rattle.ad_maps.specs.declared.view.Doing.TheVariants.{Spent, Worker, Mover}
 use Rattle.ad_maps.specs.Seen.{AddsUnmaps}
 use Rattle.ad_maps.specs.Steps.{Sat, after_give, after_member, after_unmap, begins, freeing_from, freeing_of, gives_of, left_with, member_found, member_unmapped, next_member}
-use Rattle.ad_maps.specs.Private.Handles.{acts_of, freed_by, worker_of, Frees, IsFreer, IsToFree, IsWorker}
+use Rattle.ad_maps.specs.Private.Handles.{acts_of, freed_by, worker_of, Frees, HasRetired, IsFreer, IsToFree, IsWorker}
+use Rattle.ad_maps.proofs.Elements.{lines-unmaps}
 
 map-append : {A B : Type 0} (f : A → B) (xs ys : List A) → map f (xs ++ ys) ≡ map f xs ++ map f ys
 map-append f [] ys = refl
@@ -34,17 +36,24 @@ none-freed (Worker w h) f is some = λ i. Worker w (record h { freeing = is i; a
 none-freed (Mover q) f is some = λ i. Mover (record q { freeing = is i; deeds = sym (append-nil q.deeds) i })
 
 pub frees-none : (me : Sat) (b k : ℕ) → IsToFree me (freeing.Batch b k) → Frees me.0 (freeing.Batch b k) me
-frees-none me b k is = record { numbers = []; view = λ i. (none-freed me.0 (freeing.Batch b k) is.freeing (λ e. let z : ⊥ = cc in z) i, is.slots i) }
+frees-none me b k is = record { numbers = []; retired = All-nil (HasRetired me.0); view = λ i. (none-freed me.0 (freeing.Batch b k) is.freeing (λ e. let z : ⊥ = cc in z) i, is.slots i) }
 
 freed-again : (d : Doing) (xs ys : List ℕ) (f g : Freeing) → freed_by (freed_by d xs f) ys g ≡ freed_by d (xs ++ ys) g
 freed-again Spent xs ys f g = refl
 freed-again (Worker w h) xs ys f g = ap (λ (acts : List Act). Worker w (record h { freeing = g; acts = acts })) (added-twice (λ (n : ℕ). act.Unmap n) h.acts xs ys)
 freed-again (Mover q) xs ys f g = ap (λ (deeds : List Deed). Mover (record q { freeing = g; deeds = deeds })) (added-twice (λ (n : ℕ). deed.Unmap n) q.deeds xs ys)
 
+-- what was retired stays so as mappings are unmapped
+retired-before : (d : Doing) (xs : List ℕ) (f : Freeing) (n : ℕ) → HasRetired (freed_by d xs f) n → HasRetired d n
+retired-before Spent xs f n h = tt
+retired-before (Worker w o) xs f n h = tt
+retired-before (Mover q) xs f n h = subst (λ (line : ℕ). 0 < line) (lines-unmaps q.deeds xs n) h
+
 -- some were freed, and then more
 pub frees-more : (d : Doing) (f g : Freeing) (me me' : Sat) → Frees d f me → Frees me.0 g me' → Frees d g me'
 frees-more d f g me me' first then = record {
   numbers = first.numbers ++ then.numbers;
+  retired = All-append (HasRetired d) first.numbers then.numbers first.retired (All-weaker (HasRetired me.0) (HasRetired d) (λ n h. retired-before d first.numbers f n (subst (λ (m : Sat). HasRetired m.0 n) first.view h)) then.numbers then.retired);
   view = then.view ∙ (ap (λ (m : Sat). (freed_by m.0 then.numbers g, [])) first.view ∙ ap (λ (e : Doing). (e, [])) (freed-again d first.numbers then.numbers f g));
 }
 
@@ -82,7 +91,7 @@ after-none (Mover q) b k word is none = λ i. Mover (record q { freeing = (ap (�
 
 -- there is no such member
 pub member-none : (me me' : Sat) (b k word : ℕ) → IsToFree me (freeing.Batch b k) → word ≡ 0 → me' ≡ (after_member me.0 word, []) → Frees me.0 (next_member b k) me'
-member-none me me' b k word is none view = record { numbers = []; view = view ∙ ap (λ (d : Doing). (d, [])) (after-none me.0 b k word is.freeing none) }
+member-none me me' b k word is none view = record { numbers = []; retired = All-nil (HasRetired me.0); view = view ∙ ap (λ (d : Doing). (d, [])) (after-none me.0 b k word is.freeing none) }
 
 found-is : (d : Doing) (b k word : ℕ) → freeing_of d ≡ freeing.Batch b k → word ≢ 0 → freeing_of (after_member d word) ≡ freeing.Found b k word
 found-is Spent b k word is some = absurd (let z : ⊥ = cc in z)
@@ -118,10 +127,16 @@ all-three Spent b k word found is some = absurd (let z : ⊥ = cc in z)
 all-three (Worker w h) b k word found is some = ap (λ (f : Freeing). Worker w (record h { freeing = member_unmapped f; acts = h.acts ++ act.Unmap (place_at found).mapping ∷ [] })) (found-is (Worker w h) b k word is some)
 all-three (Mover q) b k word found is some = ap (λ (f : Freeing). Mover (record q { freeing = member_unmapped f; deeds = q.deeds ++ deed.Unmap (place_at found).mapping ∷ [] })) (found-is (Mover q) b k word is some)
 
+member-retired : (d : Doing) (word n : ℕ) → HasRetired (after_member d word) n → HasRetired d n
+member-retired Spent word n h = tt
+member-retired (Worker w o) word n h = tt
+member-retired (Mover q) word n h = h
+
 -- and it was given back
-pub member-freed : (me one two three : Sat) (b k word found : ℕ) → IsToFree me (freeing.Batch b k) → word ≢ 0 → one ≡ (after_member me.0 word, []) → two ≡ (after_unmap one.0 found, []) → three ≡ (after_give two.0 0, []) → Frees me.0 (next_member b k) three
-member-freed me one two three b k word found is some first then last = record {
+pub member-freed : (me one two three : Sat) (b k word found : ℕ) → IsToFree me (freeing.Batch b k) → word ≢ 0 → one ≡ (after_member me.0 word, []) → HasRetired one.0 (place_at found).mapping → two ≡ (after_unmap one.0 found, []) → three ≡ (after_give two.0 0, []) → Frees me.0 (next_member b k) three
+member-freed me one two three b k word found is some first retired then last = record {
   numbers = (place_at found).mapping ∷ [];
+  retired = All-cons (HasRetired me.0) (place_at found).mapping [] (member-retired me.0 word (place_at found).mapping (subst (λ (m : Sat). HasRetired m.0 (place_at found).mapping) first retired)) (All-nil (HasRetired me.0));
   view = last
       ∙ (ap (λ (m : Sat). (after_give m.0 0, [])) then
       ∙ (ap (λ (m : Sat). (after_give (after_unmap m.0 found) 0, [])) first

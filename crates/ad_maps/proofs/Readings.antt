@@ -6,7 +6,7 @@ use Rattle.std.specs.FinSet as set
 use mathlib.Core.Option.{some}
 use lib.ListN.{get_elem?}
 use Rattle.ad_base.specs.declared.place.Place.{Place}
-use Rattle.ad_base.specs.Place.{place_at}
+use Rattle.ad_base.specs.Place.{packed, place_at}
 use Rattle.ad_events.specs.declared.mapping.Mapping.{Mapping}
 use Rattle.ad_events.specs.declared.mapping.Status.TheVariants.{Current}
 use Rattle.ad_events.specs.declared.event.Event.{Event}
@@ -24,7 +24,7 @@ use Rattle.ad_maps.specs.declared.shape.Shape.{Shape}
 use Rattle.ad_maps.specs.declared.view.Stance.{Stance}
 use Rattle.ad_maps.specs.declared.view.Stance.TheVariants as stance
 use Rattle.ad_maps.specs.declared.view.Doing.TheVariants.{Worker}
-use Rattle.ad_maps.specs.MapPlace.{member_word, numbers}
+use Rattle.ad_maps.specs.MapPlace.{member_word, numbers, IsPlaceOf}
 use Rattle.ad_maps.specs.declared.words.TheConstants.{MEMBERS}
 use Rattle.ad_events.specs.ReclaimInvariant.{IsListed}
 use Rattle.ad_maps.specs.Names.{Slot, Directory, Member, index, IsName}
@@ -39,12 +39,18 @@ use Rattle.ad_maps.proofs.Pinned.{gone-or}
 use Rattle.ad_maps.proofs.ReadLaw.{current_known}
 
 module _ (shape : Shape) (s : St) (r : Kept shape s) where
-  directory_says : (n : ℕ) (x : Mapping) → map.get r.state.world.mappings n ≡ Some x → DirectorySays s n x
+  placed_at : (n : ℕ) (x : Mapping) → map.get r.state.world.mappings n ≡ Some x → ((r.places n).mapping ≡ n) × IsPlaceOf shape x.module (r.places n)
+  placed_at n x there = let old = r.mappings.each n x there in (old.number, old.form)
+
+  directory_says : (n : ℕ) (x : Mapping) → map.get r.state.world.mappings n ≡ Some x → DirectorySays s (r.places n) x.status
   directory_says n x there =
       let old = r.mappings.each n x there in
       let p : Place = r.places n in
       let word = r.reads.1 (Directory p.region) (region-few shape x.module p old.form) in
-      (p, old.number, ⊎_elim (λ gone. inl (gone.0, word ∙ gone.1)) (λ here. inr (here.0, word ∙ here.1.word)) (gone-or shape r.words.directory r.words.owner r.words.cell x.module p x.status old.words))
+      ⊎_elim (λ gone. inl (gone.0, word ∙ gone.1)) (λ here. inr (here.0, word ∙ here.1.word)) (gone-or shape r.words.directory r.words.owner r.words.cell x.module p x.status old.words)
+
+  directory_from : (g : ℕ) → IsName (Directory g) → get_or s.words (index (Directory g)) 0 ≢ 0 → (n : ℕ) × (x : Mapping) × (map.get r.state.world.mappings n ≡ Some x) × ((r.places n).region ≡ g)
+  directory_from g name some_word = r.mappings.each_region g (λ z. some_word (r.reads.1 (Directory g) name ∙ z))
 
   is_inside_at : (w entry m : ℕ) (p : Place) → IsAtStance s.views w (stance.Inside entry m p) → map.get r.state.world.inside w ≡ Some p.mapping
   is_inside_at w entry m p at = (subst (StanceStands r.state.world r.places w) at.2 (worker_knows shape s r at.0 w at.1 at.3).hand.stance).0
@@ -120,16 +126,19 @@ module _ (shape : Shape) (s : St) (r : Kept shape s) where
 pub reading_law : ReadingLaw
 reading_law shape s r = record {
   reached = from_opening shape s r;
-  current = λ m low. (let k = current_known shape s r m low in (place_at (get_or s.words (16 + m) 0), k.is.there, k.word));
+  placed = placed_at shape s r;
+  current = λ m low. (let k = current_known shape s r m low in ((place_at (get_or s.words (16 + m) 0)).mapping, k.is.there, k.word ∙ ap packed (sym k.is.placed)));
   current_by = λ n m there.
       (let low = (r.mappings.each n (mapping_of m Current) there).form.for_module in
       let k = current_known shape s r m low in
       let only = (world_of shape s r).fits.only in
       let p : Place = place_at (get_or s.words (16 + m) 0) in
-      (low, (p, sym (only p.mapping m k.is.there).1 ∙ (only n m there).1, k.word)));
+      let same : p.mapping ≡ n = sym (only p.mapping m k.is.there).1 ∙ (only n m there).1 in
+      (low, k.word ∙ (ap packed (sym k.is.placed) ∙ ap (λ (i : ℕ). packed (r.places i)) same)));
   fresh = λ id q at. (mover_knows shape s r id q at).mappings.fresh;
   outs = λ id q at. (mover_knows shape s r id q at).mappings.outs;
   directory = directory_says shape s r;
+  directory_by = directory_from shape s r;
   inside = is_inside_at shape s r;
   inside_by = inside_by shape s r;
   entered = λ w entry at. (subst (StanceStands r.state.world r.places w) at.2 (worker_knows shape s r at.0 w at.1 at.3).hand.stance);

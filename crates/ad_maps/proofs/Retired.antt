@@ -1,7 +1,8 @@
 -- What the mover's view is while it retires mappings.
 use Rattle.std.proofs.Common.{◌≡◌, ◌≢◌, ℕ, zero, suc, ◌+◌, ◌<◌, ◌≤◌, Bool, true, cond, ◌&&◌, eq-eqb, ne_eqb, List, [], ◌∷◌, ◌++◌, length, length-append, take, map, get_or, append_assoc, append-nil, refl, sym, ap, ◌∙◌, subst, arith}
-use Rattle.std.specs.List.{Contains}
+use Rattle.std.specs.List.{All, Contains}
 use Rattle.std.proofs.lemmas.List.{get_or-take}
+use Rattle.std.proofs.lemmas.List.Elements.{All-append, All-nil, All-weaker}
 use Rattle.std.proofs.lemmas.List.{get_or_default}
 use Rattle.ad_maps.specs.declared.view.Deed.{Deed}
 use Rattle.ad_maps.specs.declared.view.Deed.TheVariants as deed
@@ -10,10 +11,11 @@ use Rattle.ad_maps.specs.declared.view.Passing.{Passing}
 use Rattle.ad_maps.specs.declared.view.Passing.TheVariants as passing
 use Rattle.ad_maps.specs.declared.view.Plan.{Plan}
 use Rattle.ad_maps.specs.declared.view.Doing.TheVariants.{Mover}
-use Rattle.ad_maps.specs.Seen.{AddsRetires, AreOuts}
+use Rattle.ad_maps.specs.Ledger.{line_in}
+use Rattle.ad_maps.specs.Seen.{retires_of, AddsRetires, AreOuts}
 use Rattle.ad_maps.specs.Steps.{Sat, but, but_all, has_freed, has_given, is_at_rest, is_idle, listed_more, listing, opened, settled_on}
 use Rattle.ad_maps.specs.Private.Handles.{listed_all, listed_to, passed_on, plan_of, HasRoom, IsIdle, Passes}
-use Rattle.ad_maps.proofs.Elements.{but-to, cons-here, cons-later}
+use Rattle.ad_maps.proofs.Elements.{but-to, cons-here, cons-later, lines-unmaps}
 use Rattle.ad_maps.proofs.Freed.{added-twice}
 use Rattle.ad_maps.proofs.Idle.{goes-idle}
 
@@ -85,6 +87,7 @@ settled-all slots s all = ap (λ (t : Bool). cond t passing.Rest (passing.Settle
 pub passes-none : (me : Sat) → me ≡ (Mover (plan_of me.0), []) → 1 ≤ (plan_of me.0).slots → (plan_of me.0).passing ≡ passing.Settled 0 → Passes (plan_of me.0) 0 me
 passes-none me is some settled = record {
   numbers = [];
+  retired = All-nil (λ (n : ℕ). 0 < line_in (plan_of me.0).deeds n);
   view = is ∙ (λ i. (Mover (record (plan_of me.0) { passing = (settled ∙ sym (settled-first (plan_of me.0).slots some)) i; deeds = sym (append-nil (plan_of me.0).deeds) i }), []));
 }
 
@@ -92,6 +95,7 @@ passes-none me is some settled = record {
 pub passes-more : (q : Plan) (s t : ℕ) (me me' : Sat) → Passes q s me → Passes (plan_of me.0) t me' → Passes q t me'
 passes-more q s t me me' first then = record {
   numbers = first.numbers ++ then.numbers;
+  retired = All-append (λ (n : ℕ). 0 < line_in q.deeds n) first.numbers then.numbers first.retired (All-weaker (λ (n : ℕ). 0 < line_in (plan_of me.0).deeds n) (λ (n : ℕ). 0 < line_in q.deeds n) (λ n h. subst (λ (line : ℕ). 0 < line) (ap (λ (m : Sat). line_in (plan_of m.0).deeds n) first.view ∙ lines-unmaps q.deeds first.numbers n) h) then.numbers then.retired);
   view = then.view
       ∙ (ap (λ (m : Sat). (Mover (passed_on t then.numbers (plan_of m.0)), [])) first.view
       ∙ ap (λ (ds : List Deed). (Mover (record q { passing = settled_on q.slots t; deeds = ds }), [])) (added-twice (λ (n : ℕ). deed.Unmap n) q.deeds first.numbers then.numbers));
@@ -108,7 +112,7 @@ module _ (me0 me1 me2 me3 : Sat) (slots batches : ℕ) (line : ℕ) (gs : List M
   q = plan_of me0.0
 
   abbrev deeds' : List Deed
-  deeds' = (q.deeds ++ map (λ (g : Made). deed.Retire g.place.mapping line) gs) ++ map (λ (n : ℕ). deed.Unmap n) passes.numbers
+  deeds' = (q.deeds ++ retires_of line gs) ++ map (λ (n : ℕ). deed.Unmap n) passes.numbers
 
   abbrev end : Plan
   end = record q { batches = q.batches + 1; passing = passing.Rest; outs = but_all gs q.outs; deeds = deeds' }
@@ -133,8 +137,9 @@ module _ (me0 me1 me2 me3 : Sat) (slots batches : ℕ) (line : ℕ) (gs : List M
   pub retired-deeds : (before : List Deed) → q.deeds ≡ before → AddsRetires gs line before (plan_of me3.0).deeds
   retired-deeds before same = record {
     numbers = passes.numbers;
+    retired = subst (λ (ds : List Deed). All (λ (n : ℕ). 0 < line_in ds n) passes.numbers) (ap (λ (m : Sat). (plan_of m.0).deeds) two ∙ ap (λ (ds : List Deed). ds ++ retires_of line gs) same) passes.retired;
     grew = ap (λ (m : Sat). (plan_of m.0).deeds) now
-        ∙ ap (λ (ds : List Deed). ds ++ map (λ (g : Made). deed.Retire g.place.mapping line) gs ++ map (λ (n : ℕ). deed.Unmap n) passes.numbers) same;
+        ∙ ap (λ (ds : List Deed). ds ++ retires_of line gs ++ map (λ (n : ℕ). deed.Unmap n) passes.numbers) same;
   }
 
   pub retired-outs : (before : List Made) → q.outs ≡ before → (plan_of me3.0).outs ≡ but_all gs before

@@ -225,7 +225,7 @@ OwnerLaw = (shape : Shape) (s : St) (r : Kept shape s) (id : ℕ) (q : Plan) (f 
 -- ---- what a worker that is inside finds
 
 -- a worker inside finds the directory's word of its own mapping in its region, and in any other region no word of a
--- mapping with its number
+-- place with its number
 abbrev pub OwnPagesLaw : Type 0
 OwnPagesLaw = (shape : Shape) (s : St) (r : Kept shape s) (id w slot entry m : ℕ) (p : Place) (gives : List Place) (acts : List Act)
     → get_elem? s.views id ≡ some (Worker w (hand slot (stance.Inside entry m p) gives acts))

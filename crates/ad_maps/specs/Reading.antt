@@ -6,6 +6,7 @@ use mathlib.Core.Option.{some}
 use lib.ListN.{get_elem?}
 use Rattle.ad_base.specs.declared.place.Place.{Place}
 use Rattle.ad_base.specs.Place.{packed}
+use Rattle.ad_events.specs.declared.mapping.Status.{Status}
 use Rattle.ad_events.specs.declared.mapping.Status.TheVariants.{Fresh, Current, Out, Gone}
 use Rattle.ad_events.specs.declared.mapping.Mapping.{Mapping}
 use Rattle.ad_events.specs.declared.event.Event.{Event}
@@ -22,7 +23,7 @@ use Rattle.ad_maps.specs.declared.words.TheConstants.{MEMBERS}
 use Rattle.ad_maps.specs.declared.view.Doing.{Doing}
 use Rattle.ad_maps.specs.declared.view.Doing.TheVariants.{Worker, Mover}
 use Rattle.ad_maps.specs.Laws.{found_in}
-use Rattle.ad_maps.specs.MapPlace.{directory_word, member_word, numbers}
+use Rattle.ad_maps.specs.MapPlace.{directory_word, member_word, numbers, IsPlaceOf}
 use Rattle.ad_maps.specs.Names.{Slot, Current as CurrentWord, Directory, Member, IsName}
 use Rattle.ad_maps.specs.Rule.{St, Kept, AreAll}
 
@@ -30,25 +31,29 @@ use Rattle.ad_maps.specs.Rule.{St, Kept, AreAll}
 abbrev pub IsAtStance : List Doing → ℕ → Stance → Type 0
 IsAtStance views w d = (id : ℕ) × (h : Hand) × (h.stance ≡ d) × (get_elem? views id ≡ some (Worker w h))
 
--- the directory's word at the region of a place with the mapping's number has one unmap step where the mapping is Gone, and
--- none where it isn't
-abbrev pub DirectorySays : St → ℕ → Mapping → Type 0
-DirectorySays s n x = (p : Place) × (p.mapping ≡ n) × (((x.status ≡ Gone) × (found_in s (Directory p.region) ≡ directory_word p 1)) ⊎ ((x.status ≢ Gone) × (found_in s (Directory p.region) ≡ packed p)))
+-- the directory's word at the region of a mapping's place has one unmap step where the mapping is Gone, and none where it
+-- isn't
+abbrev pub DirectorySays : St → Place → Status → Type 0
+DirectorySays s p status = ((status ≡ Gone) × (found_in s (Directory p.region) ≡ directory_word p 1)) ⊎ ((status ≢ Gone) × (found_in s (Directory p.region) ≡ packed p))
 
 -- The world is read off the words and the views
 pub record IsRead (shape : Shape) (s : St) (r : Kept shape s) : Type 0 where
   -- the world is what a list of lawful events makes of the opening's
   pub reached : (events : List Event) × AllLawful (world_opening shape.workers (numbers shape)) events × (r.state.world ≡ world_run (world_opening shape.workers (numbers shape)) events)
-  -- a module's current word is that of a place, and the mapping of its number is the module's, and Current
-  pub current : (m : ℕ) → m < length shape.modules → (p : Place) × (map.get r.state.world.mappings p.mapping ≡ Some (mapping_of m Current)) × (found_in s (CurrentWord m) ≡ packed p)
-  -- and a mapping that is Current is that of its module's current word
-  pub current_by : (n m : ℕ) → map.get r.state.world.mappings n ≡ Some (mapping_of m Current) → (m < length shape.modules) × ((p : Place) × (p.mapping ≡ n) × (found_in s (CurrentWord m) ≡ packed p))
+  -- the place that stands behind a mapping's number is one of the mapping's module, and has the number
+  pub placed : (n : ℕ) (x : Mapping) → map.get r.state.world.mappings n ≡ Some x → ((r.places n).mapping ≡ n) × IsPlaceOf shape x.module (r.places n)
+  -- a module's current word is that of the place of a mapping that is the module's, and Current
+  pub current : (m : ℕ) → m < length shape.modules → (n : ℕ) × (map.get r.state.world.mappings n ≡ Some (mapping_of m Current)) × (found_in s (CurrentWord m) ≡ packed (r.places n))
+  -- and the place of a mapping that is Current is that of its module's current word
+  pub current_by : (n m : ℕ) → map.get r.state.world.mappings n ≡ Some (mapping_of m Current) → (m < length shape.modules) × (found_in s (CurrentWord m) ≡ packed (r.places n))
   -- the mover's list of fresh mappings has those that are Fresh, and no other
   pub fresh : (id : ℕ) (q : Plan) → get_elem? s.views id ≡ some (Mover q) → AreAll r.state.world.mappings r.places q.fresh Fresh
   -- the mover's list of mappings that are out has those that are Out, and no other
   pub outs : (id : ℕ) (q : Plan) → get_elem? s.views id ≡ some (Mover q) → AreAll r.state.world.mappings r.places q.outs Out
   -- the directory says of each mapping whether it is Gone
-  pub directory : (n : ℕ) (x : Mapping) → map.get r.state.world.mappings n ≡ Some x → DirectorySays s n x
+  pub directory : (n : ℕ) (x : Mapping) → map.get r.state.world.mappings n ≡ Some x → DirectorySays s (r.places n) x.status
+  -- and a word of the directory that isn't 0 is at the region of a mapping's place
+  pub directory_by : (g : ℕ) → IsName (Directory g) → found_in s (Directory g) ≢ 0 → (n : ℕ) × (x : Mapping) × (map.get r.state.world.mappings n ≡ Some x) × ((r.places n).region ≡ g)
   -- a worker whose view is inside a mapping is inside that in the world
   pub inside : (w entry m : ℕ) (p : Place) → IsAtStance s.views w (stance.Inside entry m p) → map.get r.state.world.inside w ≡ Some p.mapping
   -- and a worker that is inside a mapping in the world has a view that is inside it

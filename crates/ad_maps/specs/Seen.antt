@@ -8,7 +8,7 @@ use Rattle.ad_maps.specs.declared.view.Act.TheVariants as act
 use Rattle.ad_maps.specs.declared.view.Deed.{Deed}
 use Rattle.ad_maps.specs.declared.view.Deed.TheVariants as deed
 use Rattle.ad_maps.specs.declared.view.Made.{Made}
-use Rattle.ad_maps.specs.Ledger.{all_made, AreLastIn}
+use Rattle.ad_maps.specs.Ledger.{all_made, line_in, AreLastIn}
 use Rattle.ad_maps.specs.MapPlace.{numbers}
 
 -- the list of what a worker did grew by unmaps alone
@@ -16,10 +16,16 @@ pub record AddsUnmaps (before after : List Act) : Type 0 where
   pub numbers : List ℕ
   pub grew : after ≡ before ++ map (λ (n : ℕ). act.Unmap n) numbers
 
--- the list of what the mover did grew by its retires of these mappings under this line, in order, and then by unmaps alone
+-- the retires of these mappings under a line
+abbrev pub retires_of : ℕ → List Made → List Deed
+retires_of line outs = map (λ (g : Made). deed.Retire g.place.mapping line) outs
+
+-- the list of what the mover did grew by its retires of these mappings under this line, in order, and then by unmaps alone, each
+-- of a mapping that it had retired by then
 pub record AddsRetires (outs : List Made) (line : ℕ) (before after : List Deed) : Type 0 where
   pub numbers : List ℕ
-  pub grew : after ≡ before ++ map (λ (g : Made). deed.Retire g.place.mapping line) outs ++ map (λ (n : ℕ). deed.Unmap n) numbers
+  pub grew : after ≡ before ++ retires_of line outs ++ map (λ (n : ℕ). deed.Unmap n) numbers
+  pub retired : All (λ (n : ℕ). 0 < line_in (before ++ retires_of line outs) n) numbers
 
 -- these are mappings that are out, each once
 pub record AreOuts (all outs : List Made) : Type 0 where

@@ -50,7 +50,7 @@ pub fn law_unmap()
     ensures { UnmapLaw }
 {}
 
-/// Every other step keeps the rule, and is no event: the world stays as it was.
+/// Each other kind of step keeps the rule, and is no event: the world stays as it was.
 pub fn law_other()
     ensures page { PageLaw }
     ensures cell { CellLaw }
@@ -73,16 +73,18 @@ pub fn law_owner()
     ensures { OwnerLaw }
 {}
 
-/// A worker that is inside finds its own mapping: in the directory, where no other region has a word with its
-/// number, and in its cells, each for its own base.
+/// A worker that is inside finds its own mapping: in the directory, where no other region has the word of a place with
+/// its number, and in its cells, each for its own base.
 pub fn law_own_pages()
     ensures pages { OwnPagesLaw }
     ensures cells { OwnCellsLaw }
 {}
 
-/// The world is reached from the opening's by lawful events, and is read off the words and the views: Current off the
-/// words, Fresh and Out off the mover's view, Retired off the members' words, Gone off the directory, who has entered and
-/// who is inside what off the workers' views. A mapping that a worker is inside isn't Gone. A slot's word counts who has
+/// The world is reached from the opening's by lawful events, and is read off the words and the views. Each mapping has one
+/// place, of its module and with its number. The place's word is the directory's at its region, with one unmap step more
+/// where the mapping is Gone, and its module's current word where it is Current; at a region of no mapping the directory
+/// has 0. Fresh and Out are read off the mover's view, Retired off the members' words, who has entered and who is inside
+/// what off the workers' views. A mapping that a worker is inside isn't Gone. A slot's word counts who has
 /// entered or is inside.
 pub fn law_reading()
     ensures { ReadingLaw }

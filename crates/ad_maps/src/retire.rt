@@ -16,8 +16,9 @@ use crate::words::{LINES, MEMBERS, NUMBERS, ONE_PUSH, SLOTS};
 use std::marker::Brand;
 
 impl Maps {
-    /// Retires the mappings, 1 to 8, under a line, from 1 to 20,000: nobody enters them any more, and whoever leaves
-    /// them last unmaps them, or this call does, where nobody is inside any. The mover owes nothing then. `outs` is
+    /// Retires the mappings, 1 to 8, under a line, from 1 to 20,000, as one batch: nobody enters them any more. Each
+    /// worker that is inside a slot as the batch passes it owes the batch, whatever mapping it is inside, and pays as
+    /// it leaves; whoever pays last, a worker or this call, unmaps them all. The mover owes nothing then. `outs` is
     /// empty after it, with the spare room of all that it had.
     pub fn retire(&self, mover: &mut MoverSeat, line: u64, outs: &mut Vec<Out>)
         requires table { mover.old.table ≡ self.now.table }

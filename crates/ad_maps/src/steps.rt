@@ -15,7 +15,7 @@ ghost use Rattle.ad_maps.specs.Laws.{MayList, MayMap};
 ghost use Rattle.ad_maps.specs.Ledger.{all_made, reads_of, IsLastIn, NeverFall};
 ghost use Rattle.ad_maps.specs.MapPlace.{cell_word, cells_of};
 ghost use Rattle.ad_maps.specs.Steps.{after_give, after_member, after_unmap, begins, filling, gives_of, left_with, listing, looking, mapping, next_slot, opened, settles, switching, taking};
-ghost use Rattle.ad_maps.specs.Private.Handles.{acts_of, entry_in, module_in, plan_of, stance_of, worker_of, HasRoom, IsAt, IsEntered, IsFreer, IsMover, IsPinned, IsToFree, IsWorker};
+ghost use Rattle.ad_maps.specs.Private.Handles.{acts_of, entry_in, module_in, plan_of, stance_of, worker_of, HasRetired, HasRoom, IsAt, IsEntered, IsFreer, IsMover, IsPinned, IsToFree, IsWorker};
 ghost use Rattle.ad_maps.specs.Private.Tells.{IsWordOf};
 
 use crate::table::{
@@ -171,6 +171,7 @@ pub(crate) fn unmap(
     ensures place { IsPlace (place_at result) }
     ensures packs { result ≡ packed (place_at result) }
     ensures frame { (place_at result).frame < FRAME_WORDS }
+    ensures retired { HasRetired seat.old.me.0 (place_at result).mapping }
 {
     let region = (word % ONE_LINE) as usize;
     table

@@ -16,10 +16,11 @@ use Rattle.ad_maps.specs.declared.view.Made.{Made}
 use Rattle.ad_maps.specs.Ledger.{all_made}
 use Rattle.ad_maps.specs.MapPlace.{opening_of}
 use Rattle.ad_maps.specs.Steps.{but, but_all}
+use Rattle.ad_maps.specs.Seen.{retires_of}
 use Rattle.ad_mover.specs.declared.mover.Mover.{Mover}
 use Rattle.ad_mover.specs.Moves.{end_of, with_outcome, AllOwned, MakesStep, MakesSteps, MayCome, MovesModule, MovesModules, Moving, NoNumber, Outcome, Placed}
 use Rattle.ad_mover.specs.Seen.{moving, HasDrawn}
-use Rattle.ad_mover.specs.Private.Lines.{retires_of, ComesTo, KeepsOthers, KeepsRoom}
+use Rattle.ad_mover.specs.Private.Lines.{ComesTo, KeepsOthers, KeepsRoom}
 use Rattle.ad_mover.proofs.Drawing.{drawn-looked, drawn-mapped, drawn-still, ledger-placed}
 use Rattle.ad_place.specs.Choice.{next_place, Drawn}
 use Rattle.ad_script.specs.declared.script.Step.{Step}

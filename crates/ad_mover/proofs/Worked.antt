@@ -1,5 +1,5 @@
 -- The worked account of the mover, and that no move is busy where nothing was made in a frame.
-use Rattle.std.proofs.Common.{◌≡◌, ◌≢◌, ℕ, ◌≤◌, List, [], ◌∷◌, ◌++◌, append-nil, map, refl, sym, ap, ◌∙◌, arith, lit<}
+use Rattle.std.proofs.Common.{◌≡◌, ◌≢◌, ℕ, ◌<◌, ◌≤◌, List, [], ◌∷◌, ◌++◌, append-nil, map, refl, sym, ap, ◌∙◌, arith, lit<}
 use Rattle.std.specs.List.{All, Contains}
 use Rattle.std.proofs.lemmas.List.Elements.{All-contains, All-cons, All-nil}
 use Rattle.ad_base.specs.declared.ledger.MoveEnd.TheVariants as ends
@@ -7,7 +7,7 @@ use Rattle.ad_base.specs.declared.ledger.Moved.{Moved}
 use Rattle.ad_maps.specs.declared.shape.Shape.{Shape}
 use Rattle.ad_maps.specs.declared.view.Deed.TheVariants as deed
 use Rattle.ad_maps.specs.declared.view.Made.{Made}
-use Rattle.ad_maps.specs.Ledger.{all_made, IsLastIn}
+use Rattle.ad_maps.specs.Ledger.{all_made, line_in, IsLastIn}
 use Rattle.ad_mover.specs.Moves.{end_of, retired_by, with_outcome, AllOwned, MakesSteps, MayCome, MovesLine, Moving, NoNumber, Outcome, Placed}
 use Rattle.ad_mover.specs.Worked.{worked_drawn, worked_end, worked_line, worked_lines, worked_moved, worked_opening, worked_second, worked_shape, worked_start, worked_third}
 use Rattle.ad_place.specs.Choice.{next_place}
@@ -20,14 +20,19 @@ behind shape line m o unmapped before =
     let switched = with_outcome shape line m o before in
     record switched { deeds = switched.deeds ++ retired_by line m before.current o ++ map (λ (n : ℕ). deed.Unmap n) unmapped }
 
+-- it retired the mapping of this number by then
+abbrev WasRetired : Shape → ℕ → ℕ → Outcome → Moving → ℕ → Type 0
+WasRetired shape line m o before n = 0 < line_in ((with_outcome shape line m o before).deeds ++ retired_by line m before.current o) n
+
 moves-one : (shape : Shape) (line m : ℕ) (o : Outcome) (unmapped : List ℕ) (before : Moving) → MayCome shape m before.drawn (all_made shape before.deeds) o
-    → (retired_by line m before.current o ≡ [] → unmapped ≡ []) → MovesLine shape line (m ∷ []) before (behind shape line m o unmapped before)
-moves-one shape line m o unmapped before may none = record {
+    → (retired_by line m before.current o ≡ [] → unmapped ≡ []) → All (WasRetired shape line m o before) unmapped → MovesLine shape line (m ∷ []) before (behind shape line m o unmapped before)
+moves-one shape line m o unmapped before may none retired = record {
   switched = with_outcome shape line m o before;
   retires = retired_by line m before.current o;
   unmapped = unmapped;
   moved = (with_outcome shape line m o before, retired_by line m before.current o, [], record { outcome = o; may = may; is = refl; out = refl }, (refl, refl), sym (append-nil (retired_by line m before.current o)));
   none = none;
+  retired = retired;
   is = refl;
 }
 
@@ -91,9 +96,10 @@ unfolding next_place
 worked-made seed =
     let two = behind worked_shape 2 0 (Placed (1 ∷ []) (worked_second seed)) [] (worked_start seed) in
     let three = behind worked_shape 3 0 (AllOwned (1 ∷ []) 2) [] two in
-    let line-two = moves-one worked_shape 2 0 (Placed (1 ∷ []) (worked_second seed)) [] (worked_start seed) (lit< tt, lit< tt, (opened-last, tt), refl, owned-one) (λ e. refl) in
-    let line-three = moves-one worked_shape 3 0 (AllOwned (1 ∷ []) 2) [] two (lit< tt, refl, (first-frame seed, (second-frame seed, tt)), owned-two) (λ e. refl) in
-    let line-four = moves-one worked_shape 4 0 (Placed [] (worked_third seed)) (2 ∷ []) three (lit< tt, lit< tt, tt, refl, All-nil (λ (o : ℕ). o ≢ 0)) (λ e. let f : ⊥ = cc in absurd f) in
+    let line-two = moves-one worked_shape 2 0 (Placed (1 ∷ []) (worked_second seed)) [] (worked_start seed) (lit< tt, lit< tt, (opened-last, tt), refl, owned-one) (λ e. refl) (All-nil (WasRetired worked_shape 2 0 (Placed (1 ∷ []) (worked_second seed)) (worked_start seed))) in
+    let line-three = moves-one worked_shape 3 0 (AllOwned (1 ∷ []) 2) [] two (lit< tt, refl, (first-frame seed, (second-frame seed, tt)), owned-two) (λ e. refl) (All-nil (WasRetired worked_shape 3 0 (AllOwned (1 ∷ []) 2) two)) in
+    let line-four = moves-one worked_shape 4 0 (Placed [] (worked_third seed)) (2 ∷ []) three (lit< tt, lit< tt, tt, refl, All-nil (λ (o : ℕ). o ≢ 0)) (λ e. let f : ⊥ = cc in absurd f)
+    (All-cons (WasRetired worked_shape 4 0 (Placed [] (worked_third seed)) three) 2 [] (lit< tt) (All-nil (WasRetired worked_shape 4 0 (Placed [] (worked_third seed)) three))) in
     (two, line-two, (three, line-three, (worked_end seed, line-four, refl)))
 
 -- ---- what is refused

@@ -10,7 +10,7 @@ use Rattle.ad_maps.specs.declared.shape.Shape.{Shape}
 use Rattle.ad_maps.specs.declared.view.Deed.{Deed}
 use Rattle.ad_maps.specs.declared.view.Deed.TheVariants as deed
 use Rattle.ad_maps.specs.declared.view.Made.{Made}
-use Rattle.ad_maps.specs.Ledger.{all_made, AreLastIn}
+use Rattle.ad_maps.specs.Ledger.{all_made, line_in, AreLastIn}
 use Rattle.ad_maps.specs.MapPlace.{opening_of}
 use Rattle.ad_maps.specs.Seen.{looks_from}
 use Rattle.ad_place.specs.Choice.{Drawn, next_place, with_next}
@@ -100,14 +100,16 @@ MovesModules shape line [] before retires after = (retires ≡ []) × (after ≡
 MovesModules shape line (m ∷ ms) before retires after =
     (mid : Moving) × (first rest : List Deed) × MovesModule shape line m before first mid × MovesModules shape line ms mid rest after × (retires ≡ first ++ rest)
 
--- A move line: its modules are moved, and then what went out is retired, all before the next line. The mover unmaps those mappings
--- that nobody is inside: which, the rows of the closed table say.
+-- A move line: its modules are moved, and then what went out is retired, all before the next line. Where the mover is the last to pay
+-- what is owed of a batch, it unmaps the batch's mappings: that depends on who runs beside it, so that these may be any mappings that
+-- it had retired by then.
 pub record MovesLine (shape : Shape) (line : ℕ) (modules : List ℕ) (before after : Moving) : Type 0 where
   pub switched : Moving
   pub retires : List Deed
   pub unmapped : List ℕ
   pub moved : MovesModules shape line modules before retires switched
   pub none : retires ≡ [] → unmapped ≡ []
+  pub retired : All (λ (n : ℕ). 0 < line_in (switched.deeds ++ retires) n) unmapped
   pub is : after ≡ record switched { deeds = switched.deeds ++ retires ++ map (λ (n : ℕ). deed.Unmap n) unmapped }
 
 -- what comes of a stack line: spent exactly where no number is left

@@ -7,9 +7,10 @@ ghost use Rattle.ad_base.specs.Image.{movable_pages};
 ghost use Rattle.ad_maps.specs.declared.view.Deed.TheVariants as deed;
 ghost use Rattle.ad_maps.specs.declared.words.TheConstants.{LINES, MEMBERS};
 ghost use Rattle.ad_maps.specs.MapPlace.{opening_of};
+ghost use Rattle.ad_maps.specs.Seen.{retires_of};
 ghost use Rattle.ad_mover.specs.Moves.{MovesLine, MovesModules};
 ghost use Rattle.ad_mover.specs.Seen.{moving, HasDrawn, IsMoverOf};
-ghost use Rattle.ad_mover.specs.Private.Lines.{retires_of, ComesTo, HasSeats, IsRoomOf, KeepsOthers, KeepsRoom, MovesOne, SendsOut};
+ghost use Rattle.ad_mover.specs.Private.Lines.{ComesTo, HasSeats, IsRoomOf, KeepsOthers, KeepsRoom, MovesOne, SendsOut};
 ghost use Rattle.ad_place.specs.Choice.{next_place, with_next};
 ghost use Rattle.ad_wrapper.specs.Fits.{Fits};
 

@@ -16,8 +16,8 @@ use Rattle.ad_maps.specs.declared.view.Doing.{Doing}
 use Rattle.ad_maps.specs.declared.view.Doing.TheVariants.{Spent, Worker, Mover}
 use Rattle.ad_maps.specs.declared.view.Deed.TheVariants as deed
 use Rattle.ad_maps.specs.declared.shape.Shape.{Shape}
-use Rattle.ad_maps.specs.Ledger.{all_made, AreLastIn}
-use Rattle.ad_maps.specs.Seen.{looks_from}
+use Rattle.ad_maps.specs.Ledger.{all_made, line_in, AreLastIn}
+use Rattle.ad_maps.specs.Seen.{looks_from, retires_of}
 use Rattle.ad_maps.specs.declared.view.Act.TheVariants as act
 use Rattle.ad_maps.specs.declared.view.Passing.{Passing}
 use Rattle.ad_maps.specs.Steps.{Sat, but_all, freeing_of, gives_of, made, settled_on, without}
@@ -155,9 +155,16 @@ freed_by Spent numbers frees = Spent
 freed_by (Worker w h) numbers frees = Worker w (record h { freeing = frees; acts = h.acts ++ map (λ (n : ℕ). act.Unmap n) numbers })
 freed_by (Mover q) numbers frees = Mover (record q { freeing = frees; deeds = q.deeds ++ map (λ (n : ℕ). deed.Unmap n) numbers })
 
+-- where the seat is the mover's, it retired the mapping of this number
+abbrev pub HasRetired : Doing → ℕ → Type 0
+HasRetired Spent n = Unit {0}
+HasRetired (Worker w h) n = Unit {0}
+HasRetired (Mover q) n = 0 < line_in q.deeds n
+
 -- the seat has unmapped some mappings and given their frames back, and has this left to free
 pub record Frees (before : Doing) (frees : Freeing) (me : Sat) : Type 0 where
   pub numbers : List ℕ
+  pub retired : All (HasRetired before) numbers
   pub view : me ≡ (freed_by before numbers frees, [])
 
 -- the seat has this to free, and nothing to give back
@@ -174,13 +181,14 @@ listed_to k = if k == 0 then passing.Rest else passing.Listing k
 
 -- the plan once these mappings are listed under this line
 abbrev pub listed_all : ℕ → List Made → Plan → Plan
-listed_all line gs q = record q { passing = listed_to (length gs); outs = but_all gs q.outs; deeds = q.deeds ++ map (λ (g : Made). deed.Retire g.place.mapping line) gs }
+listed_all line gs q = record q { passing = listed_to (length gs); outs = but_all gs q.outs; deeds = q.deeds ++ retires_of line gs }
 
 -- the plan once the batch is settled on so many slots, and these mappings were unmapped
 abbrev pub passed_on : ℕ → List ℕ → Plan → Plan
 passed_on s numbers q = record q { passing = settled_on q.slots s; deeds = q.deeds ++ map (λ (n : ℕ). deed.Unmap n) numbers }
 
--- the seat has settled its batch on so many slots
+-- the seat has settled its batch on so many slots, and unmapped mappings that it had retired
 pub record Passes (before : Plan) (s : ℕ) (me : Sat) : Type 0 where
   pub numbers : List ℕ
+  pub retired : All (λ (n : ℕ). 0 < line_in before.deeds n) numbers
   pub view : me ≡ (Mover (passed_on s numbers before), [])

@@ -12,7 +12,7 @@ use Rattle.ad_maps.specs.declared.view.Stage.TheVariants as stage
 use Rattle.ad_maps.specs.Ledger.{all_made, reads_of, IsLastIn, NeverFall}
 use Rattle.ad_maps.specs.MapPlace.{nowhere, cell_word, cells_of, IsPlaceOf}
 use Rattle.ad_maps.specs.Steps.{Sat, made, Becomes, after_read, after_act, after_leave, after_look, after_open, after_switch, after_unmap}
-use Rattle.ad_maps.specs.Private.Handles.{acts_of, stance_of, pinned_by, plan_of, HasRoom}
+use Rattle.ad_maps.specs.Private.Handles.{acts_of, stance_of, pinned_by, plan_of, HasRetired, HasRoom}
 
 -- the word is that of a place of module m
 pub record IsWordOf (shape : Shape) (m : ℕ) (word : ℕ) : Type 0 where
@@ -25,7 +25,7 @@ pub record Reads (shape : Shape) (m : ℕ) (st : Step (Unit {0})) (me : Sat) (fo
   pub word : IsWordOf shape m found
   pub falls : NeverFall (reads_of m (acts_of me'.0))
 
--- a load of the directory finds the pinned mapping's word in its region, and in any other no word with its number
+-- a load of the directory finds the pinned mapping's word in its region, and in any other no word of a place with its number
 pub record Pages (va : ℕ) (st : Step (Unit {0})) (me : Sat) (found : ℕ) (me' : Sat) : Type 0 where
   pub becomes : Becomes (after_act (act.Page va)) st me found me'
   pub own : (g : Made) → pinned_by (stance_of me.0) ≡ Some g → va / REGION_BYTES ≡ g.place.region → found ≡ packed g.place
@@ -60,12 +60,13 @@ pub record Switches (shape : Shape) (g : Made) (st : Step (Unit {0})) (me : Sat)
   pub room : (plan_of me.0).batches + 1 < NUMBERS
   pub new : (h : Made) → Contains (plan_of me.0).outs h → h.place.mapping ≢ (place_at found).mapping
 
--- an unmap finds the word of the mapping's place, whose frame is one of the table's
+-- an unmap finds the word of the mapping's place, whose frame is one of the table's; the mover's, of a mapping that it retired
 pub record Unmaps (st : Step (Unit {0})) (me : Sat) (found : ℕ) (me' : Sat) : Type 0 where
   pub becomes : Becomes after_unmap st me found me'
   pub place : IsPlace (place_at found)
   pub packs : found ≡ packed (place_at found)
   pub frame : (place_at found).frame < FRAME_WORDS
+  pub retired : HasRetired me.0 (place_at found).mapping
 
 -- notes that no step makes
 abbrev pub nothing_made : Made

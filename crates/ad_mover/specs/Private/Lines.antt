@@ -1,21 +1,16 @@
 -- What holds of the mover in the midst of a line.
-use Rattle.std.specs.Prelude.{◌≡◌, ◌≢◌, ◌*◌, ◌≤◌, ℕ, true, List, [], ◌∷◌, ◌++◌, map, AllPairs, Contains, vec_capacity}
+use Rattle.std.specs.Prelude.{◌≡◌, ◌≢◌, ◌*◌, ◌≤◌, ℕ, true, List, [], ◌∷◌, ◌++◌, AllPairs, Contains, vec_capacity}
 use Rattle.ad_base.specs.declared.ledger.MoveEnd.{MoveEnd}
 use Rattle.ad_maps.specs.declared.shape.Shape.{Shape}
 use Rattle.ad_maps.specs.declared.view.Deed.{Deed}
-use Rattle.ad_maps.specs.declared.view.Deed.TheVariants as deed
 use Rattle.ad_maps.specs.declared.view.Made.{Made}
 use Rattle.ad_maps.specs.Ledger.{all_made}
 use Rattle.ad_maps.specs.MapPlace.{module_of_frame, opening_of}
-use Rattle.ad_maps.specs.Seen.{MoverSeen, RoomSeen}
+use Rattle.ad_maps.specs.Seen.{retires_of, MoverSeen, RoomSeen}
 use Rattle.ad_mover.specs.declared.mover.Mover.{Mover}
 use Rattle.ad_mover.specs.Moves.{current_after, deeds_of, drawn_by, end_of, retired_by, MayCome, MovesModule, Outcome}
 use Rattle.ad_mover.specs.Seen.{moving}
 use Rattle.ad_wrapper.specs.declared.shared.Shared.{Shared}
-
--- these mappings are retired under a line
-abbrev pub retires_of : ℕ → List Made → List Deed
-retires_of line outs = map (λ (g : Made). deed.Retire g.place.mapping line) outs
 
 -- the seats are those of the movers of these tables, and what is out is what the vector holds, each mapping once
 pub record HasSeats (s : Shared) (m : Mover) : Type 0 where

@@ -3,7 +3,7 @@ use Rattle.std.proofs.lemmas.List.{take_more}
 use Rattle.ad_maps.specs.declared.view.Deed.{Deed}
 use Rattle.ad_mover.specs.Moves.{MovesModules}
 use Rattle.ad_mover.specs.Seen.{moving}
-use Rattle.ad_mover.specs.Private.Lines.{retires_of}
+use Rattle.ad_maps.specs.Seen.{retires_of}
 use Rattle.ad_mover.proofs.Lines.{keeps-more, moves-more}
 use Rattle.ad_mover.proofs.move_line.move_modules.Goals as goal
 

@@ -1,7 +1,8 @@
 use Rattle.std.proofs.Common.{◌≡◌, ◌+◌, ◌≤◌, length, take}
+use Rattle.ad_maps.specs.Seen.{retires_of}
 use Rattle.ad_mover.specs.Moves.{MovesModules}
 use Rattle.ad_mover.specs.Seen.{moving, HasDrawn}
-use Rattle.ad_mover.specs.Private.Lines.{retires_of, HasSeats, KeepsRoom}
+use Rattle.ad_mover.specs.Private.Lines.{HasSeats, KeepsRoom}
 use Rattle.ad_mover.proofs.move_line.move_modules.Given as goal
 
 abbrev pub invariant-loop-index : goal.invariant-loop-index

@@ -3,10 +3,9 @@ use Rattle.ad_base.specs.declared.ledger.Kind.TheVariants as kinds
 use Rattle.ad_maps.specs.declared.view.Deed.{Deed}
 use Rattle.ad_maps.specs.declared.view.Deed.TheVariants as deed
 use Rattle.ad_maps.specs.MapPlace.{opening_of}
-use Rattle.ad_maps.specs.Seen.{looks_from}
+use Rattle.ad_maps.specs.Seen.{looks_from, retires_of}
 use Rattle.ad_mover.specs.Moves.{AllOwned, Placed}
 use Rattle.ad_mover.specs.Seen.{moving}
-use Rattle.ad_mover.specs.Private.Lines.{retires_of}
 use Rattle.ad_mover.proofs.Drawing.{drawn-looked}
 use Rattle.ad_mover.proofs.Lines.{retires-more}
 use Rattle.ad_place.specs.Choice.{next_place}
