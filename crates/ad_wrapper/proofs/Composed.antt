@@ -5,7 +5,7 @@ use Rattle.ad_base.specs.declared.image.Image.{Image}
 use Rattle.ad_base.specs.Book.{Contents, contents_of}
 use Rattle.ad_call.specs.declared.call.Call.{Call}
 use Rattle.ad_call.specs.Asked.{asked_in_call}
-use Rattle.ad_call.specs.Call.{after_call, entry_of, outcome_of}
+use Rattle.ad_call.specs.Call.{after_call, entry_of, outcome_of, HasData}
 use Rattle.ad_maps.specs.declared.view.Act.{Act}
 use Rattle.ad_maps.specs.declared.view.Act.TheVariants as act
 use Rattle.ad_maps.specs.Ledger as reads
@@ -92,6 +92,7 @@ performed s step before u v left after under began ran gone back =
       turn = turn_of v.held;
       at_module = ap (λ (h : HeldSeen). h.«module») ran.turn ∙ began.at_module;
       position = ap (λ (h : HeldSeen). h.ticket) ran.turn ∙ sym began.entries ∙ ap (λ (b : Book). length b.history.entries) (sym untouched);
+      has_data = subst (λ (b : Book). HasData image b.writable b.fixed) (sym untouched) ran.has_data;
       called = ran.called ∙ called-same;
       unmapped = gone.unmaps.numbers;
       worker = back.worker ∙ gone.worker ∙ ran.worker ∙ began.worker;

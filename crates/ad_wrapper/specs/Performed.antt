@@ -6,7 +6,7 @@ use Rattle.ad_base.specs.Book.{contents_of}
 use Rattle.ad_call.specs.declared.asked.Asked.{Asked}
 use Rattle.ad_call.specs.declared.call.Call.{Call}
 use Rattle.ad_call.specs.Asked.{asked_in_call}
-use Rattle.ad_call.specs.Call.{after_call}
+use Rattle.ad_call.specs.Call.{after_call, HasData}
 use Rattle.ad_maps.specs.declared.view.Act.{Act}
 use Rattle.ad_maps.specs.declared.view.Act.TheVariants as act
 use Rattle.ad_maps.specs.Ledger as reads
@@ -26,7 +26,7 @@ abbrev pub call_for : ℕ → Ready → Place → Place → Call
 call_for worker step under stack = record { line = step.line; worker = worker; export = step.export; under = under; stack = stack }
 
 -- What a call does in the mapping table: it enters, reads the place of its module, asks for pages and local words, leaves, and
--- unmaps those mappings that it was the last to leave.
+-- unmaps the mappings of each batch of which it was the last to pay what was owed.
 abbrev pub acts_of_call : ℕ → Place → List Asked → List ℕ → List Act
 acts_of_call m under list unmaps = act.Enter ∷ act.Read m under ∷ map act_of list ++ act.Leave ∷ map (λ (n : ℕ). act.Unmap n) unmaps
 
@@ -44,10 +44,12 @@ pub record Performed (s : Shared) (before : Hands) (step : Ready) (after : Hands
   pub stack : Place
   pub is_place : IsPlaceOf s.maps.shape step.«module» under
   pub is_stack : IsStackPlace stack
-  -- its turn at the module's book: the plain machine's call, between what the book held before and what it held after
+  -- its turn at the module's book, which had as much data as the image: the plain machine's call, between what the book held before
+  -- and what it held after
   pub turn : Turn
   pub at_module : turn.«module» ≡ step.«module»
   pub position : turn.position ≡ length turn.before.history.entries
+  pub has_data : HasData image turn.before.writable turn.before.fixed
   pub called : contents_of turn.after ≡ after_call image s.fuel (contents_of turn.before) (call_for before.worker step under stack) step.args
   -- the mappings that it unmapped
   pub unmapped : List ℕ

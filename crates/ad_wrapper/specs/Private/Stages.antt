@@ -3,7 +3,7 @@ use Rattle.std.specs.Prelude.{◌≡◌, ◌+◌, ◌<◌, ◌≤◌, true, [], 
 use Rattle.ad_base.specs.declared.image.Image.{Image}
 use Rattle.ad_base.specs.Book.{contents_of}
 use Rattle.ad_call.specs.Asked.{asked_in_call}
-use Rattle.ad_call.specs.Call.{after_call}
+use Rattle.ad_call.specs.Call.{after_call, HasData}
 use Rattle.ad_maps.specs.declared.view.Act.TheVariants as act
 use Rattle.ad_maps.specs.Ledger as reads
 use Rattle.ad_maps.specs.Ledger.{reads_of}
@@ -52,6 +52,7 @@ pub record Began (before : Hands) (step : Ready) (u : OpenCall) : Type 0 where
 pub record Ran (s : Shared) (step : Ready) (before after : OpenCall) : Type 0 where
   pub image : Image
   pub loaded : slice_get s.images step.«module» ≡ Some image
+  pub has_data : HasData image before.held.book.writable before.held.book.fixed
   pub worker : after.worker ≡ before.worker
   pub table : after.inside.seat.table ≡ before.inside.seat.table
   pub seat_worker : after.inside.seat.worker ≡ before.inside.seat.worker

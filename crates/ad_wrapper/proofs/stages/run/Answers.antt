@@ -39,6 +39,7 @@ returns c =
     record {
       image = image;
       loaded = c.image_of-image.ensures;
+      has_data = given;
       worker = refl;
       table = ap (λ seat. seat.table) origin;
       seat_worker = ap (λ seat. seat.worker) origin;
