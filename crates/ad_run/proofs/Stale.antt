@@ -26,7 +26,7 @@ use Rattle.ad_maps.specs.Rows.{ClosedSeen}
 use Rattle.ad_run.specs.Beside.{IsRowOf, IsRunBeside}
 use Rattle.ad_run.specs.Ended.{IsToRun}
 use Rattle.ad_run.specs.Rows.{fixed_row}
-use Rattle.ad_run.specs.Stale.{FindsNothing, FindNothingElsewhere, IsOtherPlace}
+use Rattle.ad_run.specs.Stale.{FindsNothing, FindNothingElsewhere, HaveOwnAddresses, IsOtherPlace}
 use Rattle.ad_run.proofs.AllRows.{IsMoverRun, last-rows, regions-differ}
 use Rattle.ad_run.proofs.Clear.{HaveOwnRegions, one-row}
 use Rattle.ad_run.proofs.KeptRows.{mappings_of}
@@ -54,12 +54,11 @@ module _ (slots frames : ℕ) (l : Lines) (script : List Step) (o : Outcome) (cl
   own-regions : HaveOwnRegions o.rows
   own-regions = ledger-regions (mappings_of frames l ran.last.moves) o.rows ledger (regions-differ slots frames l script ran.last mover-ran)
 
-  -- rows that have an address in common are of one place
-  one-place : (r x : Row) (at : ℕ) → Contains o.rows r → Contains o.rows x → IsInside r.place at → IsInside x.place at → r.place ≡ x.place
-  one-place r x at c d inside within =
+  pub own-addresses : HaveOwnAddresses o
+  own-addresses r x c d at inside within =
       let p = place-of-row slots frames l script ran.last mover-ran r (in-told r c) in
       let q = place-of-row slots frames l script ran.last mover-ran x (in-told x d) in
-      ap (λ (y : Row). y.place) (one-row o.rows own-regions r x c d (region-of r.place at p inside ∙ sym (region-of x.place at q within)))
+      one-row o.rows own-regions r x c d (region-of r.place at p inside ∙ sym (region-of x.place at q within))
 
   module _ (number : ℕ) (i : Image) (b : Contents) (loaded : slice_get l.images number ≡ Some i) (stored : slice_get o.books number ≡ Some b) (e : Entry) (stands : Contains b.entries e) where
     under-row : (u : Row) × IsRowOf o.rows Code number u × (u.place ≡ e.under)
@@ -79,7 +78,7 @@ module _ (slots frames : ℕ) (l : Lines) (script : List Step) (o : Outcome) (cl
 
     module _ (r : Row) (listed : Contains o.rows r) (other : IsOtherPlace i e r.place) (at : ℕ) (inside : IsInside r.place at) where
       off : (x : Row) (p : Place) → Contains o.rows x → x.place ≡ p → r.place ≢ p → IsInside p at → ⊥
-      off x p c is differ within = differ (one-place r x at listed c inside (subst (λ q. IsInside q at) (sym is) within) ∙ is)
+      off x p c is differ within = differ (ap (λ (y : Row). y.place) (own-addresses r x listed c at inside (subst (λ q. IsInside q at) (sym is) within)) ∙ is)
 
       nothing : InEachMemory i e.under e.stack (λ memory. holding memory at ≡ None)
       nothing bytes fixed writable full long =

@@ -22,8 +22,8 @@ use Rattle.ad_wrapper.specs.declared.hands.Ready.{Ready}
 use Rattle.ad_wrapper.specs.Performed.{acts_of_call, call_for}
 
 -- A worker's call of this step, as its list and its module's book tell it: the entry is of the step, and the list has what the
--- plain machine's run of that call asks for, on the book as it was before the entry. On its way out the worker may unmap mappings:
--- which, the rows of the closed table say.
+-- plain machine's run of that call asks for, on the book as it was before the entry. On its way out the worker may unmap any
+-- mappings: that those of the lists of all seats together were retired, and each is unmapped once, the rows of the closed table say.
 pub record IsTold (l : Lines) (books : List Contents) (worker : ℕ) (step : Ready) (acts : List Act) : Type 0 where
   pub image : Image
   pub loaded : slice_get l.images step.«module» ≡ Some image

@@ -15,6 +15,10 @@ use Rattle.ad_lines.specs.LineLaws.{InEachMemory, IsFaultAtEachStep}
 use Rattle.ad_lines.specs.Sound.{Lines, Outcome}
 use Rattle.ad_lines.specs.Traps.{ComesToTouch, EndsInTrapAt, IsTrap}
 
+-- rows that have an address in common are one row
+abbrev pub HaveOwnAddresses : Outcome → Type 0
+HaveOwnAddresses o = (r x : Row) → Contains o.rows r → Contains o.rows x → (at : ℕ) → IsInside r.place at → IsInside x.place at → r ≡ x
+
 -- a place is none of those that this call of an image runs at: its mapping of the module, its stack, and the immovable part
 pub record IsOtherPlace (i : Image) (e : Entry) (p : Place) : Type 0 where
   pub not_under : p ≢ e.under

@@ -12,18 +12,20 @@ ghost use Rattle.ad_run.specs.Asked.{CallsAskForAll};
 ghost use Rattle.ad_run.specs.Beside.{IsRunBeside};
 ghost use Rattle.ad_run.specs.Ended.{IsToRun};
 ghost use Rattle.ad_run.specs.Opened.{opening_in_frames, shape_for};
-ghost use Rattle.ad_run.specs.Stale.{AreTrappedElsewhere, FindNothingElsewhere};
+ghost use Rattle.ad_run.specs.Stale.{AreTrappedElsewhere, FindNothingElsewhere, HaveOwnAddresses};
 ghost use Rattle.ad_run.specs.Worked.{first_fixed, no_lines, opened, place_of, second_fixed};
 ghost use Rattle.ad_script.specs.declared.script.Step.{Step};
 
 use ad_base::Kind;
 
-/// Whoever kept an address of a mapping that a call doesn't run on, as of one that was unmapped, holds nothing: no row's place
-/// has an address in common with another's. In the memory of the call nothing lies there, whatever bytes its stack and its data
+/// No two rows' places have an address in common. So whoever kept an address of a mapping that a call doesn't run on, as of one
+/// that was unmapped, holds nothing. In the memory of the call nothing lies there, whatever bytes its stack and its data
 /// hold, and at each of its steps each aligned fetch, load and store there is a fault. A call that fetches, loads or stores there
 /// ends at that step, in a fault, or where it isn't aligned in misaligned: so each entry tells whose call did. So it is in each
 /// book of a run with threads.
 pub fn law_stale_addresses()
+    ensures apart { (slots frames : ℕ) (l : Lines) (script : List Step) (o : Outcome) (closed : ClosedSeen)
+        → IsToRun frames l script → IsRunBeside slots frames l script o closed → HaveOwnAddresses o }
     ensures nothing { (slots frames : ℕ) (l : Lines) (script : List Step) (o : Outcome) (closed : ClosedSeen)
         → IsToRun frames l script → IsRunBeside slots frames l script o closed → FindNothingElsewhere l o }
     ensures turns { (slots frames : ℕ) (l : Lines) (script : List Step) (o : Outcome) (closed : ClosedSeen)
